@@ -1,0 +1,4 @@
+pub mod Refusals
+pub mod Record
+pub mod Map
+pub mod Texts

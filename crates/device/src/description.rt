@@ -1,0 +1,22 @@
+ghost use mathlib.Core.Path.{_≡_};
+ghost use Prim.Native.Nat.{_+_, _-_, _%_, _≤_};
+
+// One part: where its code starts, where its RAM ends, where its stack begins and of how many
+// bytes it is, and how many interrupt sources it has. Whoever holds one holds lawful values.
+#[derive(Clone, Copy)]
+pub struct Description {
+    pub(crate) code_start: u16,
+    pub(crate) ram_end: u16,
+    pub(crate) stack_top: u16,
+    pub(crate) levels: u16,
+    pub(crate) sources: u8,
+    ghost code_low: { 0xC000 ≤ «code_start» },
+    ghost code_high: { «code_start» ≤ 0xFFC0 },
+    ghost ram_low: { 0x00FF ≤ «ram_end» },
+    ghost ram_high: { «ram_end» ≤ 0x07FF },
+    ghost known_levels: { levels ≡ 64 },
+    ghost stack_aligned: { «stack_top» % levels ≡ levels - 1 },
+    ghost stack_low: { 0x0080 + (levels - 1) ≤ «stack_top» },
+    ghost stack_high: { «stack_top» ≤ «ram_end» },
+    ghost few_sources: { sources ≤ 8 },
+}

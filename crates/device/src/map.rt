@@ -1,0 +1,136 @@
+// The memory map that a description stands for.
+ghost use mathlib.Core.Path.{_≡_};
+ghost use Rattle.device.specs.Map.{within, region-span, region-of, Partition, code-span, stack-span, image-length, vector-address, has-vector};
+use crate::description::Description;
+use crate::region::Region;
+use crate::region::Span;
+use crate::region::Vector;
+
+impl Span {
+    pub fn contains(self, at: u16) -> bool
+        ensures { λ r. ⌜ r ≡ within self at ⌝ }
+    {
+        self.first <= at && at <= self.last
+    }
+}
+
+impl Vector {
+    pub fn address(self) -> u16
+        ensures { λ r. ⌜ r ≡ vector-address self ⌝ }
+    {
+        match self {
+            Vector::Reset => 0xFFFE,
+            Vector::Trap => 0xFFFC,
+            Vector::Source(k) => 0xFFFA - 2 * k as u16,
+        }
+    }
+}
+
+impl Description {
+    pub fn code_start(&self) -> u16
+        ensures { λ r. ⌜ r ≡ now (self .entry) .«code_start» ⌝ }
+    {
+        self.code_start
+    }
+
+    pub fn ram_end(&self) -> u16
+        ensures { λ r. ⌜ r ≡ now (self .entry) .«ram_end» ⌝ }
+    {
+        self.ram_end
+    }
+
+    pub fn stack_top(&self) -> u16
+        ensures { λ r. ⌜ r ≡ now (self .entry) .«stack_top» ⌝ }
+    {
+        self.stack_top
+    }
+
+    // How many bytes the stack has.
+    pub fn levels(&self) -> u16
+        ensures { λ r. ⌜ r ≡ now (self .entry) .levels ⌝ }
+    {
+        self.levels
+    }
+
+    // How many interrupt sources the part has.
+    pub fn sources(&self) -> u8
+        ensures { λ r. ⌜ r ≡ now (self .entry) .sources ⌝ }
+    {
+        self.sources
+    }
+
+    // The region that an address lies in: one of four, which share no address and leave none out.
+    pub fn region(&self, at: u16) -> Region
+        ensures value { λ r. ⌜ r ≡ region-of (now (self .entry)) at ⌝ }
+        ensures partition { λ _. ⌜ Partition (now (self .entry)) ⌝ }
+    {
+        if at < 0x0080 {
+            Region::Window
+        } else if at <= self.ram_end {
+            Region::Ram
+        } else if self.code_start <= at {
+            Region::Image
+        } else {
+            Region::Unmapped
+        }
+    }
+
+    pub fn span(&self, region: Region) -> Span
+        ensures { λ r. ⌜ r ≡ region-span (now (self .entry)) region ⌝ }
+    {
+        let (first, last) = match region {
+            Region::Window => (0x0000, 0x007F),
+            Region::Ram => (0x0080, self.ram_end),
+            Region::Unmapped => (self.ram_end + 1, self.code_start - 1),
+            Region::Image => (self.code_start, 0xFFFF),
+        };
+        Span { first, last }
+    }
+
+    // Where instructions may stand.
+    pub fn code_region(&self) -> Span
+        ensures { λ r. ⌜ r ≡ code-span (now (self .entry)) ⌝ }
+    {
+        Span {
+            first: self.code_start,
+            last: 0xFFDF,
+        }
+    }
+
+    pub fn in_code_region(&self, at: u16) -> bool
+        ensures { λ r. ⌜ r ≡ within (code-span (now (self .entry))) at ⌝ }
+    {
+        self.code_region().contains(at)
+    }
+
+    pub fn stack(&self) -> Span
+        ensures { λ r. ⌜ r ≡ stack-span (now (self .entry)) ⌝ }
+    {
+        Span {
+            first: self.stack_top - (self.levels - 1),
+            last: self.stack_top,
+        }
+    }
+
+    pub fn in_stack(&self, at: u16) -> bool
+        ensures { λ r. ⌜ r ≡ within (stack-span (now (self .entry))) at ⌝ }
+    {
+        self.stack().contains(at)
+    }
+
+    // How many bytes an image of this part has.
+    pub fn image_length(&self) -> usize
+        ensures { λ r. ⌜ r ≡ image-length (now (self .entry)) ⌝ }
+    {
+        65536 - self.code_start as usize
+    }
+
+    pub fn has_vector(&self, vector: Vector) -> bool
+        ensures { λ r. ⌜ r ≡ has-vector (now (self .entry)) vector ⌝ }
+    {
+        match vector {
+            Vector::Reset | Vector::Trap => true,
+            Vector::Source(k) => k < self.sources,
+        }
+    }
+}
