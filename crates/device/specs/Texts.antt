@@ -12,21 +12,21 @@ use Rattle.device.specs.declared.region.Vector.{Vector}
 use Rattle.device.specs.declared.region.Vector.the-variants.{Reset, Trap, Source}
 
 -- what a person reads of a region, a span of addresses, a vector, and a record that is no description
-abbrev pub region-text : Region → List ℕ
+unfoldable pub region-text : Region → List ℕ
 region-text Window = codes "peripheral window"
 region-text Ram = codes "RAM"
 region-text Unmapped = codes "unmapped"
 region-text Image = codes "image"
 
-abbrev pub span-text : Span → List ℕ
+unfoldable pub span-text : Span → List ℕ
 span-text s = hex4 (s .first) ++ (codes "-" ++ hex4 (s .last))
 
-abbrev pub vector-text : Vector → List ℕ
+unfoldable pub vector-text : Vector → List ℕ
 vector-text Reset = codes "reset"
 vector-text Trap = codes "TRAP"
 vector-text (Source k) = codes "source " ++ decimal k
 
-abbrev pub reason-text : DescriptionRefusal → List ℕ
+unfoldable pub reason-text : DescriptionRefusal → List ℕ
 reason-text CodeStart = codes "the code start is not from C000 to FFC0"
 reason-text RamEnd = codes "the RAM end is not from 00FF to 07FF"
 reason-text StackTop = codes "the stack top does not end a stack of 64 bytes within RAM"
