@@ -20,3 +20,37 @@ pub struct Description {
     ghost stack_high: { «stack_top» ≤ «ram_end» },
     ghost few_sources: { sources ≤ 8 },
 }
+
+impl Description {
+    pub fn code_start(&self) -> u16
+        ensures { λ r. ⌜ r ≡ now (self .entry) .«code_start» ⌝ }
+    {
+        self.code_start
+    }
+
+    pub fn ram_end(&self) -> u16
+        ensures { λ r. ⌜ r ≡ now (self .entry) .«ram_end» ⌝ }
+    {
+        self.ram_end
+    }
+
+    pub fn stack_top(&self) -> u16
+        ensures { λ r. ⌜ r ≡ now (self .entry) .«stack_top» ⌝ }
+    {
+        self.stack_top
+    }
+
+    // How many bytes the stack has.
+    pub fn levels(&self) -> u16
+        ensures { λ r. ⌜ r ≡ now (self .entry) .levels ⌝ }
+    {
+        self.levels
+    }
+
+    // How many interrupt sources the part has.
+    pub fn sources(&self) -> u8
+        ensures { λ r. ⌜ r ≡ now (self .entry) .sources ⌝ }
+    {
+        self.sources
+    }
+}

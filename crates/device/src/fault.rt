@@ -1,4 +1,14 @@
-// Why a record is no description: its first field at fault.
+// Why a record is no description.
+ghost use mathlib.Core.Path.{_≡_};
+ghost use Rattle.std.specs.declared.option.Option.the-variants.{Some};
+ghost use Rattle.device.specs.Refusals.{number-of, detail-of};
+ghost use Rattle.device.specs.Texts.{reason-text};
+use refusal::Detail;
+use refusal::Numbered;
+use std::error::Error;
+use std::fmt;
+
+// The first field of the record that is at fault.
 #[derive(Clone, Copy, PartialEq, Eq, Debug)]
 pub enum DescriptionRefusal {
     CodeStart,
@@ -9,3 +19,52 @@ pub enum DescriptionRefusal {
     // the record goes on after its last field
     Length,
 }
+
+impl DescriptionRefusal {
+    pub fn reason(self) -> &'static str
+        ensures { λ r. ⌜ now r ≡ reason-text self ⌝ }
+    {
+        match self {
+            DescriptionRefusal::CodeStart => "the code start is not from C000 to FFC0",
+            DescriptionRefusal::RamEnd => "the RAM end is not from 00FF to 07FF",
+            DescriptionRefusal::StackTop =>
+                "the stack top does not end a stack of 64 bytes within RAM",
+            DescriptionRefusal::Sources => "the number of sources is not from 0 to 8",
+            DescriptionRefusal::LastByte => "the last byte is not 0",
+            DescriptionRefusal::Length => "the record is longer than 8 bytes",
+        }
+    }
+}
+
+pub impl Numbered for DescriptionRefusal as DescriptionRefusalNumbered {
+    ghost numbered = { number-of };
+
+    ghost detailed = { detail-of };
+
+    fn number(&self) -> u8 {
+        4
+    }
+
+    fn detail(&self) -> Detail {
+        Detail::Offset(
+            match *self {
+                DescriptionRefusal::CodeStart => 0,
+                DescriptionRefusal::RamEnd => 2,
+                DescriptionRefusal::StackTop => 4,
+                DescriptionRefusal::Sources => 6,
+                DescriptionRefusal::LastByte => 7,
+                DescriptionRefusal::Length => 8,
+            },
+        )
+    }
+}
+
+pub impl fmt::Display for DescriptionRefusal as DescriptionRefusalDisplay {
+    ghost shown = { λ x. Some (reason-text x) };
+
+    fn fmt<W: fmt::Write>(&self, f: &mut fmt::Formatter<W>) -> fmt::Result {
+        write!(f, "{}", self.reason())
+    }
+}
+
+pub impl Error for DescriptionRefusal as DescriptionRefusalError {}

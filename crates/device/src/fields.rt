@@ -13,7 +13,11 @@ pub(crate) const LEVELS: u16 = 64;
 fn byte(bytes: &[u8], offset: usize) -> Option<u8>
     ensures { λ r. ⌜ BySome r (length (now (bytes .entry)) ≤ offset) (λ b. (offset + 1 ≤ length (now (bytes .entry))) × (b ≡ byte-at (now (bytes .entry)) offset)) ⌝ }
 {
-    if offset < bytes.len() { Some(bytes[offset]) } else { None }
+    if offset < bytes.len() {
+        Some(bytes[offset])
+    } else {
+        None
+    }
 }
 
 fn word(bytes: &[u8], offset: usize) -> Option<u16>
@@ -49,7 +53,9 @@ pub(crate) fn stack_top(bytes: &[u8], ram_end: u16) -> Option<u16>
     ensures { λ r. ⌜ Taken (StackTopOk (now (bytes .entry))) (word-at (now (bytes .entry)) 4) r ⌝ }
 {
     match word(bytes, 4) {
-        Some(w) if w % LEVELS == LEVELS - 1 && 0x0080 + (LEVELS - 1) <= w && w <= ram_end => Some(w),
+        Some(w) if w % LEVELS == LEVELS - 1 && 0x0080 + (LEVELS - 1) <= w && w <= ram_end => Some(
+            w,
+        ),
         _ => None,
     }
 }

@@ -1,64 +1,12 @@
 // The memory map that a description stands for.
 ghost use mathlib.Core.Path.{_≡_};
-ghost use Rattle.device.specs.Map.{within, region-span, region-of, Partition, code-span, stack-span, image-length, vector-address, has-vector};
+ghost use Rattle.device.specs.Map.{within, region-span, region-of, Partition, code-span, stack-span, image-length, has-vector};
 use crate::description::Description;
 use crate::region::Region;
 use crate::region::Span;
 use crate::region::Vector;
 
-impl Span {
-    pub fn contains(self, at: u16) -> bool
-        ensures { λ r. ⌜ r ≡ within self at ⌝ }
-    {
-        self.first <= at && at <= self.last
-    }
-}
-
-impl Vector {
-    pub fn address(self) -> u16
-        ensures { λ r. ⌜ r ≡ vector-address self ⌝ }
-    {
-        match self {
-            Vector::Reset => 0xFFFE,
-            Vector::Trap => 0xFFFC,
-            Vector::Source(k) => 0xFFFA - 2 * k as u16,
-        }
-    }
-}
-
 impl Description {
-    pub fn code_start(&self) -> u16
-        ensures { λ r. ⌜ r ≡ now (self .entry) .«code_start» ⌝ }
-    {
-        self.code_start
-    }
-
-    pub fn ram_end(&self) -> u16
-        ensures { λ r. ⌜ r ≡ now (self .entry) .«ram_end» ⌝ }
-    {
-        self.ram_end
-    }
-
-    pub fn stack_top(&self) -> u16
-        ensures { λ r. ⌜ r ≡ now (self .entry) .«stack_top» ⌝ }
-    {
-        self.stack_top
-    }
-
-    // How many bytes the stack has.
-    pub fn levels(&self) -> u16
-        ensures { λ r. ⌜ r ≡ now (self .entry) .levels ⌝ }
-    {
-        self.levels
-    }
-
-    // How many interrupt sources the part has.
-    pub fn sources(&self) -> u8
-        ensures { λ r. ⌜ r ≡ now (self .entry) .sources ⌝ }
-    {
-        self.sources
-    }
-
     // The region that an address lies in: one of four, which share no address and leave none out.
     pub fn region(&self, at: u16) -> Region
         ensures value { λ r. ⌜ r ≡ region-of (now (self .entry)) at ⌝ }

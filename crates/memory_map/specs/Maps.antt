@@ -24,18 +24,18 @@ vector-line v = codes "     " ++ (hex4 (vector-address v) ++ (codes "  " ++ (vec
 -- the four regions, in the order of their addresses
 unfoldable pub region-lines : Description → List ℕ
 region-lines d =
-  span-line (region-span d Window) (region-text Window)
-  ++ (span-line (region-span d Ram) (region-text Ram)
-  ++ (span-line (region-span d Unmapped) (region-text Unmapped)
-  ++ span-line (region-span d Image) (region-text Image)))
+    span-line (region-span d Window) (region-text Window)
+    ++ (span-line (region-span d Ram) (region-text Ram)
+    ++ (span-line (region-span d Unmapped) (region-text Unmapped)
+    ++ span-line (region-span d Image) (region-text Image)))
 
 -- the stack, how many bytes it has, the code region, and how many bytes an image has
 unfoldable pub part-lines : Description → List ℕ
 part-lines d =
-  span-line (stack-span d) (codes "stack")
-  ++ (number-line (d .levels) (codes "stack levels")
-  ++ (span-line (code-span d) (codes "code region")
-  ++ number-line (image-length d) (codes "image length")))
+    span-line (stack-span d) (codes "stack")
+    ++ (number-line (d .levels) (codes "stack levels")
+    ++ (span-line (code-span d) (codes "code region")
+    ++ number-line (image-length d) (codes "image length")))
 
 -- the vectors of the sources below n, the lowest first
 abbrev pub source-lines : ℕ → List ℕ

@@ -21,7 +21,11 @@ fn digit(d: u8) -> char
     requires { ⌜ d < 16 ⌝ }
     ensures { λ r. ⌜ r ≡ hex-digit d ⌝ }
 {
-    if d < 10 { (b'0' + d) as char } else { (b'A' - 10 + d) as char }
+    if d < 10 {
+        (b'0' + d) as char
+    } else {
+        (b'A' - 10 + d) as char
+    }
 }
 
 pub impl fmt::Display for Hex2 as Hex2Display {
@@ -49,6 +53,10 @@ pub impl fmt::Display for Dec2 as Dec2Display {
 
     fn fmt<W: fmt::Write>(&self, f: &mut fmt::Formatter<W>) -> fmt::Result {
         let n = self.0;
-        if n < 10 { write!(f, "0{n}") } else { write!(f, "{n}") }
+        if n < 10 {
+            write!(f, "0{n}")
+        } else {
+            write!(f, "{n}")
+        }
     }
 }

@@ -1,6 +1,6 @@
 use borrow.Author.Needs.{needs}
 use Rattle.device.specs.Texts.{span-text}
-use Rattle.device.proofs.texts.SpanDisplay.fmt.Needs as need
+use Rattle.device.proofs.region.SpanDisplay.fmt.Needs as need
 
 pub returns : need.returns
 unfolding span-text
