@@ -1,24 +1,14 @@
 use mathlib.Core.Path.{_≡_}
-use mathlib.Core.Bool.{Bool, true, cond, _&&_}
-use Prim.Native.Nat.{ℕ, _+_, _-_, _*_, _≤_, _<_}
+use mathlib.Core.Bool.{Bool, true, cond}
+use Prim.Native.Nat.{ℕ, _+_, _-_, _<_}
 use lib.Dec.{ltb, leb}
+use Rattle.region.specs.Spans.{span, Within}
 use Rattle.device.specs.declared.description.Description.{Description}
-use Rattle.device.specs.declared.region.Region.{Region}
-use Rattle.device.specs.declared.region.Region.the-variants.{Window, Ram, Unmapped, Image}
-use Rattle.device.specs.declared.region.Span.{Span}
-use Rattle.device.specs.declared.region.Vector.{Vector}
-use Rattle.device.specs.declared.region.Vector.the-variants.{Reset, Trap, Source}
-
--- the addresses from one to another
-abbrev pub span : ℕ → ℕ → Span
-span a b = record { first = a; last = b }
-
--- an address lies in a span
-abbrev pub Within : Span → ℕ → Type 0
-Within s a = (s .first ≤ a) × (a ≤ s .last)
-
-abbrev pub within : Span → ℕ → Bool
-within s a = leb (s .first) a && leb a (s .last)
+use Rattle.region.specs.declared.Region.{Region}
+use Rattle.region.specs.declared.Region.the-variants.{Window, Ram, Unmapped, Image}
+use Rattle.region.specs.declared.Span.{Span}
+use Rattle.region.specs.declared.Vector.{Vector}
+use Rattle.region.specs.declared.Vector.the-variants.{Reset, Trap, Source}
 
 -- the addresses of each region
 abbrev pub region-span : Description → Region → Span
@@ -46,12 +36,7 @@ stack-span d = span (d .«stack_top» - (d .levels - 1)) (d .«stack_top»)
 abbrev pub image-length : Description → ℕ
 image-length d = 65536 - d .«code_start»
 
--- where each vector lies, and which of them a part has
-abbrev pub vector-address : Vector → ℕ
-vector-address Reset = 0xFFFE
-vector-address Trap = 0xFFFC
-vector-address (Source k) = 0xFFFA - 2 * k
-
+-- a part has the vectors of reset and TRAP, and of its own sources
 abbrev pub has-vector : Description → Vector → Bool
 has-vector d Reset = true
 has-vector d Trap = true

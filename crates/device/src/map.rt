@@ -1,10 +1,25 @@
 // The memory map that a description stands for.
 ghost use mathlib.Core.Path.{_≡_};
-ghost use Rattle.device.specs.Map.{within, region-span, region-of, Partition, code-span, stack-span, image-length, has-vector};
+ghost use Rattle.region.specs.Spans.{within};
+ghost use Rattle.device.specs.Map.{region-span, region-of, Partition, code-span, stack-span, image-length, has-vector};
 use crate::description::Description;
-use crate::region::Region;
-use crate::region::Span;
-use crate::region::Vector;
+use region::Region;
+use region::Span;
+use region::Vector;
+
+fn region_of(d: &Description, at: u16) -> Region
+    ensures { λ r. ⌜ r ≡ region-of (now (d .entry)) at ⌝ }
+{
+    if at < 0x0080 {
+        Region::Window
+    } else if at <= d.ram_end {
+        Region::Ram
+    } else if d.code_start <= at {
+        Region::Image
+    } else {
+        Region::Unmapped
+    }
+}
 
 impl Description {
     // The region that an address lies in: one of four, which share no address and leave none out.
@@ -12,17 +27,10 @@ impl Description {
         ensures value { λ r. ⌜ r ≡ region-of (now (self .entry)) at ⌝ }
         ensures partition { λ _. ⌜ Partition (now (self .entry)) ⌝ }
     {
-        if at < 0x0080 {
-            Region::Window
-        } else if at <= self.ram_end {
-            Region::Ram
-        } else if self.code_start <= at {
-            Region::Image
-        } else {
-            Region::Unmapped
-        }
+        region_of(self, at)
     }
 
+    // The addresses of a region.
     pub fn span(&self, region: Region) -> Span
         ensures { λ r. ⌜ r ≡ region-span (now (self .entry)) region ⌝ }
     {

@@ -3,13 +3,14 @@ use Prim.Native.Nat.{ℕ, zero, suc}
 use lib.Chars.{codes}
 use Rattle.numerals.specs.Numerals.{hex4}
 use Rattle.device.specs.declared.description.Description.{Description}
-use Rattle.device.specs.declared.region.Region.{Region}
-use Rattle.device.specs.declared.region.Region.the-variants.{Window, Ram, Unmapped, Image}
-use Rattle.device.specs.declared.region.Span.{Span}
-use Rattle.device.specs.declared.region.Vector.{Vector}
-use Rattle.device.specs.declared.region.Vector.the-variants.{Reset, Trap, Source}
-use Rattle.device.specs.Map.{region-span, code-span, stack-span, image-length, vector-address}
-use Rattle.device.specs.Texts.{region-text, span-text, vector-text}
+use Rattle.region.specs.declared.Region.{Region}
+use Rattle.region.specs.declared.Region.the-variants.{Window, Ram, Unmapped, Image}
+use Rattle.region.specs.declared.Span.{Span}
+use Rattle.region.specs.declared.Vector.{Vector}
+use Rattle.region.specs.declared.Vector.the-variants.{Reset, Trap, Source}
+use Rattle.device.specs.Map.{region-span, code-span, stack-span, image-length}
+use Rattle.region.specs.Spans.{vector-address}
+use Rattle.region.specs.Texts.{region-text, span-text, vector-text}
 
 -- a line of addresses, or of one number under the last of them; then what it is
 unfoldable pub span-line : Span → List ℕ → List ℕ

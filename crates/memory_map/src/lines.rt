@@ -2,12 +2,12 @@
 ghost use mathlib.Core.Path.{_≡_};
 ghost use Rattle.std.specs.declared.option.Option.the-variants.{Some};
 ghost use Rattle.memory_map.specs.Maps.{span-line, number-line, vector-line, source-lines};
-use device::Span;
-use device::SpanDisplay;
-use device::Vector;
-use device::VectorDisplay;
 use numerals::Hex4;
 use numerals::Hex4Display;
+use region::Span;
+use region::SpanDisplay;
+use region::Vector;
+use region::VectorDisplay;
 use std::fmt;
 
 // Addresses, and what lies there.

@@ -1,6 +1,6 @@
 use borrow.Author.Needs.{needs}
-use Rattle.device.specs.Texts.{vector-text}
-use Rattle.device.proofs.region.VectorDisplay.fmt.Needs as need
+use Rattle.region.specs.Texts.{vector-text}
+use Rattle.region.proofs.VectorDisplay.fmt.Needs as need
 
 pub returns-in-Reset : need.returns-in-Reset
 unfolding vector-text

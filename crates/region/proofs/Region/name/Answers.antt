@@ -1,6 +1,6 @@
 use mathlib.Core.Path.{sym, ap}
-use Rattle.device.specs.Texts.{region-text}
-use Rattle.device.proofs.region.Region.name.Needs as need
+use Rattle.region.specs.Texts.{region-text}
+use Rattle.region.proofs.Region.name.Needs as need
 
 pub returns-in-Window : need.returns-in-Window
 unfolding region-text

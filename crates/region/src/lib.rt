@@ -1,8 +1,8 @@
 // The regions of the address space, spans of addresses, and vectors.
 ghost use mathlib.Core.Path.{_≡_};
 ghost use Rattle.std.specs.declared.option.Option.the-variants.{Some};
-ghost use Rattle.device.specs.Map.{within, vector-address};
-ghost use Rattle.device.specs.Texts.{region-text, span-text, vector-text};
+ghost use Rattle.region.specs.Spans.{within, vector-address};
+ghost use Rattle.region.specs.Texts.{region-text, span-text, vector-text};
 use numerals::Hex4;
 use numerals::Hex4Display;
 use std::fmt;
