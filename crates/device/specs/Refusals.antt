@@ -13,9 +13,10 @@ offset-of Sources = 6
 offset-of LastByte = 7
 offset-of Length = 8
 
--- every field that is at fault has one number, and its offset for a detail
+-- every field at fault has the number 4
 abbrev pub number-of : DescriptionRefusal → ℕ
 number-of e = 4
 
+-- and its offset for a detail
 abbrev pub detail-of : DescriptionRefusal → Detail
 detail-of e = Offset (offset-of e)

@@ -22,6 +22,9 @@ pub struct Description {
 }
 
 impl Description {
+    // How many bytes a record has.
+    pub const LENGTH: usize = 8;
+
     pub fn code_start(&self) -> u16
         ensures { λ r. ⌜ r ≡ now (self .entry) .«code_start» ⌝ }
     {

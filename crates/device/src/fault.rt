@@ -21,17 +21,18 @@ pub enum DescriptionRefusal {
 }
 
 impl DescriptionRefusal {
+    // What is wrong with the record.
     pub fn reason(self) -> &'static str
         ensures { λ r. ⌜ now r ≡ reason-text self ⌝ }
     {
         match self {
-            DescriptionRefusal::CodeStart => "the code start is not from C000 to FFC0",
-            DescriptionRefusal::RamEnd => "the RAM end is not from 00FF to 07FF",
+            DescriptionRefusal::CodeStart => "code start missing, or not from C000 to FFC0",
+            DescriptionRefusal::RamEnd => "RAM end missing, or not from 00FF to 07FF",
             DescriptionRefusal::StackTop =>
-                "the stack top does not end a stack of 64 bytes within RAM",
-            DescriptionRefusal::Sources => "the number of sources is not from 0 to 8",
-            DescriptionRefusal::LastByte => "the last byte is not 0",
-            DescriptionRefusal::Length => "the record is longer than 8 bytes",
+                "stack top missing, with a low bit that is 0, or its stack not in RAM",
+            DescriptionRefusal::Sources => "number of sources missing, or above 8",
+            DescriptionRefusal::LastByte => "last byte missing, or not 0",
+            DescriptionRefusal::Length => "more than 8 bytes",
         }
     }
 }

@@ -1,7 +1,9 @@
 // The memory map that a description stands for.
 ghost use mathlib.Core.Path.{_≡_};
-ghost use Rattle.region.specs.Spans.{within};
-ghost use Rattle.device.specs.Map.{region-span, region-of, Partition, code-span, stack-span, image-length, has-vector};
+ghost use Rattle.region.specs.Spans.{within, Inside};
+ghost use Rattle.region.specs.declared.Region.the-variants.{Image};
+ghost use lib.Dec.{T};
+ghost use Rattle.device.specs.Map.{region-span, region-of, Partition, code-span, stack-span, image-length, has-vector, Stack-fits, Vector-fits};
 use crate::description::Description;
 use region::Region;
 use region::Span;
@@ -45,7 +47,8 @@ impl Description {
 
     // Where instructions may stand.
     pub fn code_region(&self) -> Span
-        ensures { λ r. ⌜ r ≡ code-span (now (self .entry)) ⌝ }
+        ensures value { λ r. ⌜ r ≡ code-span (now (self .entry)) ⌝ }
+        ensures fits { λ r. ⌜ Inside r (region-span (now (self .entry)) Image) ⌝ }
     {
         Span {
             first: self.code_start,
@@ -60,7 +63,8 @@ impl Description {
     }
 
     pub fn stack(&self) -> Span
-        ensures { λ r. ⌜ r ≡ stack-span (now (self .entry)) ⌝ }
+        ensures value { λ r. ⌜ r ≡ stack-span (now (self .entry)) ⌝ }
+        ensures fits { λ r. ⌜ Stack-fits (now (self .entry)) r ⌝ }
     {
         Span {
             first: self.stack_top - (self.levels - 1),
@@ -82,7 +86,8 @@ impl Description {
     }
 
     pub fn has_vector(&self, vector: Vector) -> bool
-        ensures { λ r. ⌜ r ≡ has-vector (now (self .entry)) vector ⌝ }
+        ensures value { λ r. ⌜ r ≡ has-vector (now (self .entry)) vector ⌝ }
+        ensures fits { λ r. ⌜ (T r → Vector-fits (now (self .entry)) vector) ⌝ }
     {
         match vector {
             Vector::Reset | Vector::Trap => true,

@@ -21,17 +21,17 @@ impl Description {
         let Some(sources) = fields::sources(bytes) else {
             return Err(DescriptionRefusal::Sources);
         };
-        let Some(levels) = fields::levels(bytes) else {
+        let Some(_) = fields::last_byte(bytes) else {
             return Err(DescriptionRefusal::LastByte);
         };
-        if bytes.len() > 8 {
+        if !fields::ends(bytes) {
             return Err(DescriptionRefusal::Length);
         }
         Ok(Description {
             code_start,
             ram_end,
             stack_top,
-            levels,
+            levels: fields::levels(bytes),
             sources,
         })
     }

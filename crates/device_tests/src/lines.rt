@@ -4,8 +4,8 @@ use memory_map::ReportDisplay;
 use refusal::Detail;
 use refusal::Line;
 use refusal::LineDisplay;
-use refusal::Opcode;
 use refusal::Place;
+use refusal::VoidCode;
 use std::test::*;
 
 fn prints(rt: &LibcRuntime, number: u8, detail: Detail, text: &str) -> Result<(), Fail> {
@@ -19,13 +19,13 @@ fn refusals(rt: LibcRuntime) -> Result<(), Fail> {
         address: 0xFFC5,
         entry: 0xFFC0,
     };
-    let void = Opcode {
+    let void = VoidCode {
         prebyte: Some(0x90),
-        byte: 0x4F,
+        opcode: 0x4F,
     };
-    let plain = Opcode {
+    let plain = VoidCode {
         prebyte: None,
-        byte: 0x0A,
+        opcode: 0x0A,
     };
     prints(&rt, 5, Detail::Nothing, "NO 05")?;
     prints(&rt, 4, Detail::Offset(2), "NO 04 at 2")?;

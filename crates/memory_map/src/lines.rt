@@ -1,5 +1,4 @@
 // The lines of a memory map, each with its end.
-ghost use mathlib.Core.Path.{_≡_};
 ghost use Rattle.std.specs.declared.option.Option.the-variants.{Some};
 ghost use Rattle.memory_map.specs.Maps.{span-line, number-line, vector-line, source-lines};
 use numerals::Hex4;

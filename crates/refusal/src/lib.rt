@@ -3,7 +3,7 @@ ghost use mathlib.Core.Path.{_≡_};
 ghost use Prim.Native.Nat.{ℕ};
 ghost use Rattle.std.specs.declared.option.Option.the-variants.{Some};
 ghost use Rattle.refusal.specs.declared.Detail.{Detail};
-ghost use Rattle.refusal.specs.Lines.{place-text, opcode-text, detail-text, line-text};
+ghost use Rattle.refusal.specs.Lines.{place-text, code-text, detail-text, line-text};
 use numerals::Dec2;
 use numerals::Dec2Display;
 use numerals::Hex2;
@@ -14,9 +14,9 @@ use std::fmt;
 
 // A code that is no instruction: the opcode, with the prebyte before it if there was one.
 #[derive(Clone, Copy, PartialEq, Eq, Debug)]
-pub struct Opcode {
+pub struct VoidCode {
     pub prebyte: Option<u8>,
-    pub byte: u8,
+    pub opcode: u8,
 }
 
 // Where an image has a fault: its address, and the entry of the routine that has it.
@@ -34,9 +34,9 @@ pub enum Detail {
     Offset(u8),
     // which record of a script
     Index(u16),
-    Void(Opcode),
+    Void(VoidCode),
     At(Place),
-    VoidAt(Opcode, Place),
+    VoidAt(VoidCode, Place),
 }
 
 // A refusal, by its number and its detail. Contracts speak of these two.
@@ -71,14 +71,14 @@ impl Line {
     }
 }
 
-pub impl fmt::Display for Opcode as OpcodeDisplay {
-    ghost shown = { λ o. Some (opcode-text o) };
+pub impl fmt::Display for VoidCode as VoidCodeDisplay {
+    ghost shown = { λ c. Some (code-text c) };
 
     fn fmt<W: fmt::Write>(&self, f: &mut fmt::Formatter<W>) -> fmt::Result {
-        let byte = Hex2(self.byte);
+        let opcode = Hex2(self.opcode);
         match self.prebyte {
-            Some(p) => write!(f, "{} {byte}", Hex2(p)),
-            None => write!(f, "{byte}"),
+            Some(p) => write!(f, "{} {opcode}", Hex2(p)),
+            None => write!(f, "{opcode}"),
         }
     }
 }
@@ -99,7 +99,7 @@ pub impl fmt::Display for Detail as DetailDisplay {
             Detail::Nothing => write!(f, ""),
             Detail::Offset(offset) => write!(f, " at {offset}"),
             Detail::Index(index) => write!(f, " at {index}"),
-            Detail::Void(opcode) => write!(f, " code {opcode}"),
+            Detail::Void(code) => write!(f, " code {code}"),
             Detail::At(place) => write!(f, " at {place}"),
             Detail::VoidAt(_, place) => write!(f, " at {place}"),
         }

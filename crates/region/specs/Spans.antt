@@ -9,12 +9,17 @@ use Rattle.region.specs.declared.Vector.the-variants.{Reset, Trap, Source}
 abbrev pub span : ℕ → ℕ → Span
 span a b = record { first = a; last = b }
 
--- an address lies in a span, as a fact and as a test
+-- an address lies in a span
 abbrev pub Within : Span → ℕ → Type 0
 Within s a = (s .first ≤ a) × (a ≤ s .last)
 
+-- the same, as a test
 abbrev pub within : Span → ℕ → Bool
 within s a = leb (s .first) a && leb a (s .last)
+
+-- a span is not empty, and lies in another
+abbrev pub Inside : Span → Span → Type 0
+Inside s t = (t .first ≤ s .first) × (s .first ≤ s .last) × (s .last ≤ t .last)
 
 -- where each vector lies: the words of the sources go down from the vector of TRAP
 abbrev pub vector-address : Vector → ℕ
