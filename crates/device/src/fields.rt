@@ -47,7 +47,7 @@ pub(crate) fn ram_end(bytes: &[u8]) -> Option<u16>
     }
 }
 
-// How many bytes the stack has.
+// How many bytes the stack has: 64 in every part so far, so the record is not asked.
 pub(crate) fn levels(bytes: &[u8]) -> u16
     ensures { λ r. ⌜ r ≡ levels-of (now (bytes .entry)) ⌝ }
 {
