@@ -16,7 +16,7 @@ pub record Good-before (bs : List ℕ) (o : ℕ) : Type 0 where
   pub seven : 7 < o → Good-last-byte bs
   pub eight : 8 < o → length bs ≤ 8
 
--- then no fault lies before o
+-- where they are, no fault lies before o
 pub none-before : (bs : List ℕ) (o p : ℕ) → Good-before bs o → p < o → At-fault bs p → ⊥
 none-before bs o p g h (bad-code-start bad) = bad (g .zero h)
 none-before bs o p g h (bad-ram-end bad) = bad (g .two h)
@@ -25,7 +25,7 @@ none-before bs o p g h (bad-sources bad) = bad (g .six h)
 none-before bs o p g h (bad-last-byte bad) = bad (g .seven h)
 none-before bs o p g h (goes-on more) = let less : length bs ≤ 8 = g .eight h in omega arith
 
--- and no fault lies past 8
+-- no fault lies past offset 8
 within : (bs : List ℕ) (p : ℕ) → At-fault bs p → p < 9
 within bs p (bad-code-start bad) = omega arith
 within bs p (bad-ram-end bad) = omega arith
@@ -34,8 +34,10 @@ within bs p (bad-sources bad) = omega arith
 within bs p (bad-last-byte bad) = omega arith
 within bs p (goes-on more) = omega arith
 
+-- a record is lawful where every field is good
 pub lawful : (bs : List ℕ) → Good-before bs 9 → Lawful bs
 lawful bs g o f = none-before bs 9 o g (within bs o f) f
 
+-- a refusal that names a fault after good fields names the first one
 pub refused : (bs : List ℕ) (e : DescriptionRefusal) → Good-before bs (offset-of e) → At-fault bs (offset-of e) → Refused bs e
 refused bs e g f = record { number = refl; offset = offset-of e; detail = refl; first = (f, λ p h. none-before bs (offset-of e) p g h) }

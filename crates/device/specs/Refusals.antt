@@ -17,6 +17,6 @@ offset-of Length = 8
 abbrev pub number-of : DescriptionRefusal → ℕ
 number-of e = 4
 
--- and its offset for a detail
+-- the detail is where the field at fault begins
 abbrev pub detail-of : DescriptionRefusal → Detail
 detail-of e = Offset (offset-of e)

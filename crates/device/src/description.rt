@@ -1,8 +1,8 @@
 ghost use mathlib.Core.Path.{_≡_};
 ghost use Prim.Native.Nat.{_+_, _-_, _%_, _≤_};
 
-// One part: where its code starts, where its RAM ends, where its stack begins and of how many
-// bytes it is, and how many interrupt sources it has. Whoever holds one holds lawful values.
+// One part: where its code starts, where its RAM ends, the top of its stack and how many bytes the
+// stack has, and how many interrupt sources there are. Whoever holds one holds lawful values.
 #[derive(Clone, Copy)]
 pub struct Description {
     pub(crate) code_start: u16,

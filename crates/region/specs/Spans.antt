@@ -13,7 +13,7 @@ span a b = record { first = a; last = b }
 abbrev pub Within : Span → ℕ → Type 0
 Within s a = (s .first ≤ a) × (a ≤ s .last)
 
--- the same, as a test
+-- the test of whether an address lies in a span
 abbrev pub within : Span → ℕ → Bool
 within s a = leb (s .first) a && leb a (s .last)
 
