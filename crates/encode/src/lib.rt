@@ -1,4 +1,6 @@
 // The encoder, and the round trips of encoder and decoder.
+#![tactic(auto)]
+
 mod encoder;
 mod places;
 mod refusals;

@@ -1,4 +1,6 @@
 // Instructions of the ST7 as values: modes, operands, and the lengths and cycles that they have.
+#![tactic(auto)]
+
 pub mod instruction;
 pub mod mode;
 mod rows;

@@ -1,4 +1,6 @@
 // Examples of decoding, encoding, text and listing, worked out by hand.
+#![tactic(auto)]
+
 #[cfg(test)]
 mod decoding;
 #[cfg(test)]

@@ -1,4 +1,6 @@
 // The instruction set of the ST7: its op-code map, the decoder, and relative offsets.
+#![tactic(auto)]
+
 pub mod decoder;
 pub mod fault;
 pub mod opcode;

@@ -1,4 +1,6 @@
 // A part of an image as items: instructions and stray bytes.
+#![tactic(auto)]
+
 mod item;
 mod items;
 mod reading;

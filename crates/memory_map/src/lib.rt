@@ -1,4 +1,6 @@
 // The memory map of a part, as lines of text.
+#![tactic(auto)]
+
 ghost use Rattle.std.specs.Prelude.{◌≡◌, Some};
 ghost use Rattle.memory_map.specs.Maps.{region_lines, part_lines, map_text};
 ghost use Rattle.device.specs.Map.{region_span};

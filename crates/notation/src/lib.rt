@@ -1,4 +1,6 @@
 // Instructions as an assembler writes them.
+#![tactic(auto)]
+
 ghost use Rattle.std.specs.Prelude.{◌≡◌, Some};
 ghost use Rattle.notation.specs.Texts.{is_empty, operands_text, operands_of, statement_text};
 

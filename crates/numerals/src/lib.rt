@@ -1,4 +1,6 @@
 // Numbers as the programs print them: hexadecimal in capitals, of a fixed width, and two-digit decimals.
+#![tactic(auto)]
+
 ghost use Rattle.std.specs.Prelude.{◌≡◌, ◌<◌, Some};
 ghost use Rattle.numerals.specs.Numerals.{hex_digit, hex2, hex4, dec2};
 

@@ -1,6 +1,8 @@
 // Tries the op-code tables. Standard input has a line for each row of them: bytes, mnemonic, operands, length and cycles, as
 // `92 D6 12|LD|A,([$12.w],X)|3|7`, for an instruction at $C000. The bytes of each are decoded and encoded again, and what the library
 // says of them is held to the row. Then all codes are tried, without a prebyte and behind each of the three.
+#![tactic(auto)]
+
 mod codes;
 mod row;
 mod tally;

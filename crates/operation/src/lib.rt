@@ -1,4 +1,6 @@
 // The operations of the ST7.
+#![tactic(auto)]
+
 ghost use Rattle.std.specs.Prelude.{◌≡◌};
 ghost use Rattle.operation.specs.Indexes.{uses_index};
 ghost use Rattle.operation.specs.Mnemonics.{mnemonic_text};

@@ -1,4 +1,6 @@
 // The numbered answers: what a call says where it is refused or stops, and the line that programs print of it.
+#![tactic(auto)]
+
 ghost use Rattle.std.specs.Prelude.{◌≡◌, ℕ, Some};
 ghost use Rattle.refusal.specs.declared.Detail.{Detail};
 ghost use Rattle.refusal.specs.Lines.{place_text, code_text, detail_text, line_text};

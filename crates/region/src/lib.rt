@@ -1,4 +1,6 @@
 // The regions of the address space, spans of addresses, and vectors.
+#![tactic(auto)]
+
 ghost use Rattle.std.specs.Prelude.{◌≡◌, Some};
 ghost use Rattle.region.specs.Spans.{within, vector_address};
 ghost use Rattle.region.specs.Texts.{region_text, span_text, vector_text};

@@ -1,5 +1,7 @@
 // Prints the memory map of the device description on standard input, or `NO 04 at` and the offset
 // of its first field at fault. What went wrong goes to standard error, and the status is then 1.
+#![tactic(auto)]
+
 use device::Description;
 use memory_map::Report;
 use std::io::Read;
