@@ -8,8 +8,8 @@ pub returns-in-0 : goal.returns-in-0
 unfolding length_of
 returns-in-0 c = search rules
 
-pub returns-in-default : goal.returns-in-default
+pub returns-in_default : goal.returns-in_default
 unfolding length_of
-returns-in-default c =
+returns-in_default c =
     plus _ _ _ _ (c.length.ensures ∙ ap (row_length c.args.self.operation) c.mode-mode.ensures)
     (c.bytes-added.ensures ∙ ap (prebyte_length c.args.self.index) (c.is_indirect.ensures ∙ ap is_indirect c.mode-mode.ensures)) (search rules)

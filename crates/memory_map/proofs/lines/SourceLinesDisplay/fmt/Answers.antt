@@ -6,4 +6,4 @@ use Rattle.memory_map.proofs.lines.SourceLinesDisplay.fmt.Goals as goal
 pub loop-k-preserved : goal.loop-k-preserved
 loop-k-preserved g c plain =
     let before = c.loop-k.invariant plain in
-    rw add-one (has_written_append g.W.Write.write_str_gives _ _ _ _ _ before (c.write.ensures.writes before.plain (ap is_ok c.in-ok-write.was)))
+    rw add-one (has_written_append g.W.Write.write_str_gives _ _ _ _ _ before (c.write.ensures.writes before.plain (ap is_ok c.in_ok-write.was)))
