@@ -12,4 +12,4 @@ pub returns-in_default : goal.returns-in_default
 unfolding cycles_of
 returns-in_default c =
     plus _ _ _ _ (c.cycles.ensures ∙ ap (row_cycles c.args.self.operation) (c.direct.ensures ∙ ap direct_of c.mode-mode.ensures))
-    (c.cycles-added.ensures ∙ ap (prebyte_cycles c.args.self.index) (c.is_indirect.ensures ∙ ap is_indirect c.mode-mode.ensures)) (search rules)
+    (c.cycles_added.ensures ∙ ap (prebyte_cycles c.args.self.index) (c.is_indirect.ensures ∙ ap is_indirect c.mode-mode.ensures)) (search rules)

@@ -12,4 +12,4 @@ pub returns-in_default : goal.returns-in_default
 unfolding length_of
 returns-in_default c =
     plus _ _ _ _ (c.length.ensures ∙ ap (row_length c.args.self.operation) c.mode-mode.ensures)
-    (c.bytes-added.ensures ∙ ap (prebyte_length c.args.self.index) (c.is_indirect.ensures ∙ ap is_indirect c.mode-mode.ensures)) (search rules)
+    (c.bytes_added.ensures ∙ ap (prebyte_length c.args.self.index) (c.is_indirect.ensures ∙ ap is_indirect c.mode-mode.ensures)) (search rules)
