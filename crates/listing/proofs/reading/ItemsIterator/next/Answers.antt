@@ -4,8 +4,8 @@ use Rattle.listing.proofs.Cutting.{joined_again, begins, shorter, empty}
 use Rattle.listing.proofs.reading.ItemsIterator.next.Goals as goal
 use Rattle.std.proofs.iter.Next.{firm}
 
-pub returns-then-is-empty : goal.returns-then-is-empty
-returns-then-is-empty c =
+pub returns-then-is_empty : goal.returns-then-is_empty
+returns-then-is_empty c =
     let none = empty c.args.self.now.bytes.now (search rules) in
     record { steps = (none, none, refl); goes = firm (tt) (λ h. search rules) }
 

@@ -14,5 +14,5 @@ returns-in-BitPointer c i = simp (c.in-BitPointer.is, append_assoc)
 
 pub returns-in-BitPointerRelative : goal.returns-in-BitPointerRelative
 returns-in-BitPointerRelative c i =
-    let e : c.relative-target-in-BitPointerRelative.result ≡ relative_target c.args.next c.in-BitPointerRelative.offset = search rules in
+    let e : c.relative_target-in-BitPointerRelative.result ≡ relative_target c.args.next c.in-BitPointerRelative.offset = search rules in
     rw c.in-BitPointerRelative.is (pointer_branch i _ _ _ _ e)
