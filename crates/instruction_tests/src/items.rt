@@ -8,7 +8,7 @@ fn stray(rt: &impl Abort, item: Option<Item>, at: u16, byte: u8) -> Result<(), F
     match item {
         Some(Item::Stray { address, bytes }) => {
             assert_eq!(rt; address, at);
-            assert!(rt; bytes == [byte]);
+            assert!(rt; bytes == [byte].as_slice());
             Ok(())
         }
         _ => {
@@ -68,7 +68,7 @@ fn strays_and_instructions(rt: HostRuntime) -> Result<(), Fail> {
 fn last_addresses(rt: HostRuntime) -> Result<(), Fail> {
     let bytes = [0x9D, 0xA6, 0x12, 0x9D];
     let (mut items, past) = Items::new(0xFFFE, &bytes);
-    assert!(rt; past == [0x12, 0x9D]);
+    assert!(rt; past == [0x12, 0x9D].as_slice());
     instruction(&rt, items.next(), 0xFFFE, 1, Operation::Nop)?;
     stray(&rt, items.next(), 0xFFFF, 0xA6)?;
     match items.next() {
