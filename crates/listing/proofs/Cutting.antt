@@ -1,5 +1,5 @@
 -- Bytes that are cut in two.
-use Rattle.std.proofs.Common.{◌≡◌, ℕ, ◌+◌, ◌-◌, ◌<◌, ◌≤◌, List, [], ◌∷◌, ◌++◌, length, take, drop, sym, refl, ap, ◌∙◌, arith, length-drop, take-append-drop, length-take-le}
+use Rattle.std.proofs.Common.{◌≡◌, ℕ, ◌+◌, ◌<◌, ◌≤◌, List, [], ◌∷◌, ◌++◌, length, take, drop, sym, refl, ap, ◌∙◌, arith, length-drop, take-append-drop, length-take-le}
 
 -- the two together are what was cut
 pub joined_again : (n : ℕ) (bs front rest : List ℕ) → front ≡ take n bs → rest ≡ drop n bs → front ++ rest ≡ bs
