@@ -5,6 +5,7 @@
 use device::Description;
 use memory_map::Report;
 use std::io::Read;
+use std::process::ExitCode;
 
 fn run(rt: &HostRuntime) -> anyhow::Result<()> {
     let mut input = Vec::new(rt.alloc());
@@ -19,10 +20,12 @@ fn run(rt: &HostRuntime) -> anyhow::Result<()> {
     }
 }
 
-fn main(rt: HostRuntime) -> anyhow::Result<()> {
-    let result = run(&rt);
-    if let Err(error) = &result {
-        let _ = eprintln!(rt; "st7device: {error}");
+fn main(rt: HostRuntime) -> ExitCode {
+    match run(&rt) {
+        Ok(()) => ExitCode::SUCCESS,
+        Err(error) => {
+            let _ = eprintln!(rt; "st7device: {error}");
+            ExitCode::FAILURE
+        }
     }
-    result
 }
