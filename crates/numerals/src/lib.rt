@@ -1,10 +1,12 @@
 // Numbers as the programs print them: hexadecimal in capitals, of a fixed width, and two-digit decimals.
 #![tactic(auto)]
 
-ghost use Rattle.std.specs.Prelude.{◌≡◌, ◌<◌, Some};
-ghost use Rattle.numerals.specs.Numerals.{hex_digit, hex2, hex4, dec2};
+ghost use Rattle.std.specs.Prelude.{Some};
+ghost use Rattle.numerals.specs.Numerals.{hex2, hex4, dec2};
 
 use std::fmt;
+
+// Each `fmt` below takes its number out first: the proofs then know how large it can be.
 
 // A byte as two hexadecimal digits.
 #[derive(Clone, Copy)]
@@ -18,46 +20,32 @@ pub struct Hex4(pub u16);
 #[derive(Clone, Copy)]
 pub struct Dec2(pub u8);
 
-fn digit(d: u8) -> char
-    requires { d < 16 }
-    ensures { result ≡ hex_digit d }
-{
-    if d < 10 {
-        (b'0' + d) as char
-    } else {
-        (b'A' - 10 + d) as char
-    }
-}
-
+#[tactic(auto, using(crate::proofs::Texts::byte_text))]
 impl fmt::Display for Hex2 {
     ghost output = { λ h. Some (hex2 h.0) };
 
     fn fmt<W: fmt::Write>(&self, f: &mut fmt::Formatter<W>) -> fmt::Result {
-        let high = digit(self.0 / 16);
-        let low = digit(self.0 % 16);
-        write!(f, "{high}{low}")
+        let n = self.0;
+        write!(f, "{n:02X}")
     }
 }
 
+#[tactic(auto, using(crate::proofs::Texts::word_text))]
 impl fmt::Display for Hex4 {
     ghost output = { λ h. Some (hex4 h.0) };
 
     fn fmt<W: fmt::Write>(&self, f: &mut fmt::Formatter<W>) -> fmt::Result {
-        let high = Hex2((self.0 / 256) as u8);
-        let low = Hex2((self.0 % 256) as u8);
-        write!(f, "{high}{low}")
+        let n = self.0;
+        write!(f, "{n:04X}")
     }
 }
 
+#[tactic(auto, using(crate::proofs::Texts::decimal_text))]
 impl fmt::Display for Dec2 {
     ghost output = { λ d. Some (dec2 d.0) };
 
     fn fmt<W: fmt::Write>(&self, f: &mut fmt::Formatter<W>) -> fmt::Result {
         let n = self.0;
-        if n < 10 {
-            write!(f, "0{n}")
-        } else {
-            write!(f, "{n}")
-        }
+        write!(f, "{n:02}")
     }
 }
