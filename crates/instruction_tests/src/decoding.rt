@@ -32,7 +32,7 @@ fn refused(rt: &(impl Abort + AllocGlobal), bytes: &[u8], line: &str) -> Result<
             Ok(())
         },
         Err(fault) => {
-            let said = Line::of(&fault).to_string(rt.alloc())?;
+            let said = Line::from(&fault).to_string(rt.alloc())?;
             assert_eq!(rt; said.as_str(), line);
             Ok(())
         }

@@ -63,9 +63,9 @@ fn short_buffers(rt: HostRuntime) {
 
 #[test]
 fn lines(rt: HostRuntime) -> Result<(), Fail> {
-    let none = Line::of(&EncodeRefusal::NoInstruction).to_string(rt.alloc())?;
+    let none = Line::from(&EncodeRefusal::NoInstruction).to_string(rt.alloc())?;
     assert_eq!(rt; none.as_str(), "NO 10");
-    let short = Line::of(&EncodeRefusal::ShortBuffer).to_string(rt.alloc())?;
+    let short = Line::from(&EncodeRefusal::ShortBuffer).to_string(rt.alloc())?;
     assert_eq!(rt; short.as_str(), "NO 11");
     Ok(())
 }

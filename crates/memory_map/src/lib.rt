@@ -112,7 +112,7 @@ impl fmt::Display for Report {
     fn fmt<W: fmt::Write>(&self, f: &mut fmt::Formatter<W>) -> fmt::Result {
         match *self {
             Report::Taken(description) => write!(f, "{}", MemoryMap(description)),
-            Report::Refused(refusal) => write!(f, "{}\n", Line::of(&refusal)),
+            Report::Refused(refusal) => write!(f, "{}\n", Line::from(&refusal)),
         }
     }
 }

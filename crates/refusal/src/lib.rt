@@ -55,11 +55,10 @@ pub struct Line {
     pub detail: Detail,
 }
 
-impl Line {
-    pub fn of<E: Numbered>(refusal: &E) -> Line
-        ensures number { result.number ≡ E.Numbered.numbered refusal.now }
-        ensures detail { result.detail ≡ E.Numbered.detailed refusal.now }
-    {
+impl<E: Numbered> From<&E> for Line {
+    ghost from_gives = { λ refusal line. (line.number ≡ E.Numbered.numbered refusal.now) × (line.detail ≡ E.Numbered.detailed refusal.now) };
+
+    fn from(refusal: &E) -> Line {
         Line {
             number: refusal.number(),
             detail: refusal.detail(),
@@ -92,7 +91,7 @@ impl fmt::Display for Detail {
 
     fn fmt<W: fmt::Write>(&self, f: &mut fmt::Formatter<W>) -> fmt::Result {
         match *self {
-            Detail::Nothing => write!(f, ""),
+            Detail::Nothing => Ok(()),
             Detail::Offset(offset) => write!(f, " at {offset}"),
             Detail::Index(index) => write!(f, " at {index}"),
             Detail::Void(code) => write!(f, " code {code}"),
@@ -102,6 +101,7 @@ impl fmt::Display for Detail {
     }
 }
 
+#[tactic(auto, unfolding(crate::specs::Lines::line_text))]
 impl fmt::Display for Line {
     ghost output = { λ l. Some (line_text l.number l.detail) };
 

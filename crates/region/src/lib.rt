@@ -17,6 +17,7 @@ pub enum Region {
 }
 
 impl Region {
+    #[tactic(auto, unfolding(crate::specs::Texts::region_text))]
     pub fn name(self) -> &'static str
         ensures { result.now ≡ region_text self }
     {
@@ -48,10 +49,11 @@ impl Span {
     pub fn contains(self, at: u16) -> bool
         ensures { result ≡ within self at }
     {
-        self.first <= at && at <= self.last
+        (self.first..=self.last).contains(&at)
     }
 }
 
+#[tactic(auto, unfolding(crate::specs::Texts::span_text))]
 impl fmt::Display for Span {
     ghost output = { λ x. Some (span_text x) };
 
@@ -75,11 +77,12 @@ impl Vector {
         match self {
             Vector::Reset => 0xFFFE,
             Vector::Trap => 0xFFFC,
-            Vector::Source(k) => 0xFFFA - 2 * k as u16,
+            Vector::Source(k) => 0xFFFA - 2 * u16::from(k),
         }
     }
 }
 
+#[tactic(auto, unfolding(crate::specs::Texts::vector_text))]
 impl fmt::Display for Vector {
     ghost output = { λ x. Some (vector_text x) };
 
