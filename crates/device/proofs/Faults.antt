@@ -1,7 +1,12 @@
-use Rattle.std.proofs.Common.{ℕ, ◌<◌, ◌≤◌, List, length, refl, arith}
+use Rattle.std.proofs.Common.{◌≡◌, ℕ, ◌<◌, ◌≤◌, List, length, Some, None, Err, Option, Result, refl, ◌∙◌, arith}
+use Rattle.std.specs.Option.{ok_or}
+use Rattle.std.specs.Result.{IsErrAnd}
+use Rattle.std.proofs.lemmas.Result.{err_from_is_err_and}
+use Rattle.device.specs.declared.description.Description.{Description}
 use Rattle.device.specs.declared.fault.DescriptionRefusal.{DescriptionRefusal}
+use Rattle.device.specs.declared.fault.DescriptionRefusal.TheVariants.{Length}
 use Rattle.device.specs.Refusals.{offset_of}
-use Rattle.device.specs.Record.{GoodCodeStart, GoodRamEnd, GoodStackTop, GoodSources, GoodLastByte, AtFault, bad_code_start, bad_ram_end, bad_stack_top, bad_sources, bad_last_byte, goes_on, Refused, Lawful}
+use Rattle.device.specs.Record.{GoodCodeStart, GoodRamEnd, GoodStackTop, GoodSources, GoodLastByte, AtFault, goes_on, Refused, Lawful, Read, Taken}
 
 -- the fields that begin before o are good
 pub record GoodBefore (bs : List ℕ) (o : ℕ) : Type 0 where
@@ -12,28 +17,23 @@ pub record GoodBefore (bs : List ℕ) (o : ℕ) : Type 0 where
   pub seven : 7 < o → GoodLastByte bs
   pub eight : 8 < o → length bs ≤ 8
 
--- where they are, no fault lies before o
-pub none_before : (bs : List ℕ) (o p : ℕ) → GoodBefore bs o → p < o → AtFault bs p → ⊥
-none_before bs o p g h (bad_code_start bad) = bad (g.zero h)
-none_before bs o p g h (bad_ram_end bad) = bad (g.two h)
-none_before bs o p g h (bad_stack_top bad) = bad (g.four h)
-none_before bs o p g h (bad_sources bad) = bad (g.six h)
-none_before bs o p g h (bad_last_byte bad) = bad (g.seven h)
-none_before bs o p g h (goes_on more) = let less : length bs ≤ 8 = g.eight h in omega arith
-
--- no fault lies past offset 8
-within : (bs : List ℕ) (p : ℕ) → AtFault bs p → p < 9
-within bs p (bad_code_start bad) = omega arith
-within bs p (bad_ram_end bad) = omega arith
-within bs p (bad_stack_top bad) = omega arith
-within bs p (bad_sources bad) = omega arith
-within bs p (bad_last_byte bad) = omega arith
-within bs p (goes_on more) = omega arith
-
 -- a record is lawful where every field is good
 pub lawful : (bs : List ℕ) → GoodBefore bs 9 → Lawful bs
-lawful bs g o f = none_before bs 9 o g (within bs o f) f
+lawful bs g o f = grind arith
 
 -- a refusal that names a fault after good fields names the first one
 pub refused : (bs : List ℕ) (e : DescriptionRefusal) → GoodBefore bs (offset_of e) → AtFault bs (offset_of e) → Refused bs e
-refused bs e g f = record { number = refl; offset = offset_of e; detail = refl; first = (f, λ p h. none_before bs (offset_of e) p g h) }
+refused bs e g f = record { number = refl; offset = offset_of e; detail = refl; first = (f, λ p h q. grind arith) }
+
+-- a record that goes on after good fields is refused for its length
+pub too_long : (bs : List ℕ) → GoodBefore bs 8 → 8 < length bs → Refused bs Length
+too_long bs g more = refused bs Length g (goes_on more)
+
+-- what is returned where a field after good ones is not taken
+pub not_taken : {Good : Type 0} (v : ℕ) (bs : List ℕ) (e y : DescriptionRefusal) (o : Option ℕ) (r : Result Description DescriptionRefusal)
+    → Taken Good v o → Err y ≡ ok_or o e → IsErrAnd r (λ x. x ≡ y) → ((Good → ⊥) → AtFault bs (offset_of e)) → GoodBefore bs (offset_of e) → Read bs r
+not_taken v bs e y None r bad same h fault before =
+    let p = err_from_is_err_and r h in
+    let is : p.0 ≡ e = p.2 ∙ cc in
+    rw (p.1, is) (refused bs e before (fault bad))
+not_taken v bs e y (Some w) r good same h fault before = absurd cc

@@ -12,17 +12,25 @@ byte_at bs o = slice_index bs o
 abbrev pub word_at : List ℕ → ℕ → ℕ
 word_at bs o = byte_at bs o * 256 + byte_at bs (o + 1)
 
+-- the byte at an offset is there, and at most a value
+abbrev pub ByteUpTo : List ℕ → ℕ → ℕ → Type 0
+ByteUpTo bs o most = (o + 1 ≤ length bs) × (byte_at bs o ≤ most)
+
+-- the word at an offset is wholly there, from one value to another
+abbrev pub WordWithin : List ℕ → ℕ → ℕ → ℕ → Type 0
+WordWithin bs o low high = (o + 2 ≤ length bs) × (low ≤ word_at bs o) × (word_at bs o ≤ high)
+
 -- how many bytes the stack has of the part that a record describes: every part so far has 64
 abbrev pub levels_of : List ℕ → ℕ
 levels_of bs = 64
 
 -- the code start is wholly there, from C000 to FFC0
 abbrev pub GoodCodeStart : List ℕ → Type 0
-GoodCodeStart bs = (2 ≤ length bs) × (0xC000 ≤ word_at bs 0) × (word_at bs 0 ≤ 0xFFC0)
+GoodCodeStart bs = WordWithin bs 0 0xC000 0xFFC0
 
 -- the RAM end is wholly there, from 00FF to 07FF
 abbrev pub GoodRamEnd : List ℕ → Type 0
-GoodRamEnd bs = (4 ≤ length bs) × (0x00FF ≤ word_at bs 2) × (word_at bs 2 ≤ 0x07FF)
+GoodRamEnd bs = WordWithin bs 2 0x00FF 0x07FF
 
 -- the stack top is wholly there, its low bits are all 1, and the stack that it ends begins at 0080 or above and ends in RAM
 abbrev pub GoodStackTop : List ℕ → Type 0
@@ -30,7 +38,7 @@ GoodStackTop bs = (6 ≤ length bs) × (word_at bs 4 % levels_of bs ≡ levels_o
 
 -- the number of sources is there, and at most 8
 abbrev pub GoodSources : List ℕ → Type 0
-GoodSources bs = (7 ≤ length bs) × (byte_at bs 6 ≤ 8)
+GoodSources bs = ByteUpTo bs 6 8
 
 -- the last byte is there, and 0
 abbrev pub GoodLastByte : List ℕ → Type 0

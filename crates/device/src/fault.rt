@@ -21,6 +21,7 @@ pub enum DescriptionRefusal {
 
 impl DescriptionRefusal {
     // What is wrong with the record.
+    #[tactic(auto, unfolding(crate::specs::Texts::reason_text))]
     pub fn reason(self) -> &'static str
         ensures { result.now ≡ reason_text self }
     {

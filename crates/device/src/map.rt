@@ -1,5 +1,5 @@
 // The memory map that a description stands for.
-ghost use Rattle.std.specs.Prelude.{◌≡◌, T};
+ghost use Rattle.std.specs.Prelude.{◌≡◌, IsTrue};
 ghost use Rattle.region.specs.Spans.{within, Inside};
 ghost use Rattle.region.specs.declared.Region.TheVariants.{Image};
 ghost use Rattle.device.specs.Map.{region_span, region_of, Partition, code_span, stack_span, image_length, has_vector, StackFits, VectorFits};
@@ -7,27 +7,22 @@ ghost use Rattle.device.specs.Map.{region_span, region_of, Partition, code_span,
 use crate::description::Description;
 use region::{Region, Span, Vector};
 
-fn region_of(d: &Description, at: u16) -> Region
-    ensures { result ≡ region_of d.now at }
-{
-    if at < 0x0080 {
-        Region::Window
-    } else if at <= d.ram_end {
-        Region::Ram
-    } else if d.code_start <= at {
-        Region::Image
-    } else {
-        Region::Unmapped
-    }
-}
-
 impl Description {
     // The region that an address lies in: one of four, which share no address and leave none out.
+    #[tactic(auto, using(crate::proofs::Regions::partition))]
     pub fn region(&self, at: u16) -> Region
         ensures value { result ≡ region_of self.now at }
         ensures partition { Partition self.now }
     {
-        region_of(self, at)
+        if at < 0x0080 {
+            Region::Window
+        } else if at <= self.ram_end {
+            Region::Ram
+        } else if self.code_start <= at {
+            Region::Image
+        } else {
+            Region::Unmapped
+        }
     }
 
     // The addresses of a region.
@@ -80,12 +75,12 @@ impl Description {
     pub fn image_length(&self) -> usize
         ensures { result ≡ image_length self.now }
     {
-        65536 - self.code_start as usize
+        65536 - usize::from(self.code_start)
     }
 
     pub fn has_vector(&self, vector: Vector) -> bool
         ensures value { result ≡ has_vector self.now vector }
-        ensures fits { T result → VectorFits self.now vector }
+        ensures fits { IsTrue result → VectorFits self.now vector }
     {
         match vector {
             Vector::Reset | Vector::Trap => true,
