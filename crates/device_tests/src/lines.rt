@@ -45,7 +45,7 @@ fn refusals(rt: HostRuntime) -> Result<(), Fail> {
 
 // What st7device prints of a record.
 fn reports(rt: &(impl Abort + AllocGlobal), bytes: &[u8], text: &str) -> Result<(), Fail> {
-    let report = Report::of(bytes).to_string(rt.alloc())?;
+    let report = Report::from(bytes).to_string(rt.alloc())?;
     assert_eq!(rt; report.as_str(), text);
     Ok(())
 }

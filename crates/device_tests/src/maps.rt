@@ -7,7 +7,7 @@ const RECORD: [u8; 8] = [0xC1, 0x80, 0x02, 0x45, 0x01, 0x7F, 0x03, 0x00];
 
 #[test]
 fn fields(rt: HostRuntime) -> Result<(), Fail> {
-    let d = Description::read(&RECORD)?;
+    let d = Description::try_from(&RECORD[..])?;
     assert_eq!(rt; d.code_start(), 0xC180);
     assert_eq!(rt; d.ram_end(), 0x0245);
     assert_eq!(rt; d.stack_top(), 0x017F);
@@ -19,7 +19,7 @@ fn fields(rt: HostRuntime) -> Result<(), Fail> {
 
 #[test]
 fn regions(rt: HostRuntime) -> Result<(), Fail> {
-    let d = Description::read(&RECORD)?;
+    let d = Description::try_from(&RECORD[..])?;
     assert_eq!(rt; d.region(0x0000), Region::Window);
     assert_eq!(rt; d.region(0x007F), Region::Window);
     assert_eq!(rt; d.region(0x0080), Region::Ram);
@@ -33,7 +33,7 @@ fn regions(rt: HostRuntime) -> Result<(), Fail> {
 
 #[test]
 fn spans(rt: HostRuntime) -> Result<(), Fail> {
-    let d = Description::read(&RECORD)?;
+    let d = Description::try_from(&RECORD[..])?;
     assert_eq!(rt;
         d.span(Region::Window),
         Span {
@@ -81,7 +81,7 @@ fn spans(rt: HostRuntime) -> Result<(), Fail> {
 
 #[test]
 fn inside(rt: HostRuntime) -> Result<(), Fail> {
-    let d = Description::read(&RECORD)?;
+    let d = Description::try_from(&RECORD[..])?;
     assert!(rt; !d.in_stack(0x013F) && d.in_stack(0x0140));
     assert!(rt; d.in_stack(0x017F) && !d.in_stack(0x0180));
     assert!(rt; !d.in_code_region(0xC17F) && d.in_code_region(0xC180));
@@ -91,7 +91,7 @@ fn inside(rt: HostRuntime) -> Result<(), Fail> {
 
 #[test]
 fn vectors(rt: HostRuntime) -> Result<(), Fail> {
-    let d = Description::read(&RECORD)?;
+    let d = Description::try_from(&RECORD[..])?;
     assert_eq!(rt; Vector::Reset.address(), 0xFFFE);
     assert_eq!(rt; Vector::Trap.address(), 0xFFFC);
     assert_eq!(rt; Vector::Source(0).address(), 0xFFFA);

@@ -5,10 +5,9 @@ use std::process::Abort;
 
 // The number and the detail of the refusal of a record, if it is refused.
 fn refusal(bytes: &[u8]) -> Option<(u8, Detail)> {
-    match Description::read(bytes) {
-        Ok(_) => None,
-        Err(refusal) => Some((refusal.number(), refusal.detail())),
-    }
+    Description::try_from(bytes)
+        .err()
+        .map(|refusal| (refusal.number(), refusal.detail()))
 }
 
 fn taken(rt: &impl Abort, fields: [u16; 5]) {
@@ -25,16 +24,9 @@ fn record(fields: [u16; 5]) -> [u8; 8] {
     let [c1, c0] = code_start.to_be_bytes();
     let [r1, r0] = ram_end.to_be_bytes();
     let [t1, t0] = stack_top.to_be_bytes();
-    [
-        c1,
-        c0,
-        r1,
-        r0,
-        t1,
-        t0,
-        (sources % 256) as u8,
-        (last % 256) as u8,
-    ]
+    let [_, s] = sources.to_be_bytes();
+    let [_, l] = last.to_be_bytes();
+    [c1, c0, r1, r0, t1, t0, s, l]
 }
 
 #[test]

@@ -5,7 +5,8 @@ ghost use Rattle.std.specs.Prelude.{◌≡◌, Some};
 ghost use Rattle.memory_map.specs.Maps.{region_lines, part_lines, map_text};
 ghost use Rattle.device.specs.Map.{region_span};
 ghost use Rattle.region.specs.Texts.{region_text};
-ghost use Rattle.memory_map.specs.Reports.{Reported, report_text};
+ghost use Rattle.device.specs.Record.{Read};
+ghost use Rattle.memory_map.specs.Reports.{report_text};
 
 use crate::lines::{NumberLine, SourceLines, SpanLine, VectorLine};
 use device::{Description, DescriptionRefusal};
@@ -31,6 +32,7 @@ impl RegionLines {
     }
 }
 
+#[tactic(auto, unfolding(crate::specs::Maps::region_lines))]
 impl fmt::Display for RegionLines {
     ghost output = { λ x. Some (region_lines x.0) };
 
@@ -47,6 +49,7 @@ impl fmt::Display for RegionLines {
 #[derive(Clone, Copy)]
 struct PartLines(Description);
 
+#[tactic(auto, unfolding(crate::specs::Maps::part_lines))]
 impl fmt::Display for PartLines {
     ghost output = { λ x. Some (part_lines x.0) };
 
@@ -64,6 +67,7 @@ impl fmt::Display for PartLines {
             label: "code region",
         };
         let length = NumberLine {
+            // no `From` narrows, and the proofs have it that no image is too long
             number: self.0.image_length() as u16,
             label: "image length",
         };
@@ -75,6 +79,7 @@ impl fmt::Display for PartLines {
 #[derive(Clone, Copy)]
 pub struct MemoryMap(pub Description);
 
+#[tactic(auto, unfolding(crate::specs::Maps::map_text))]
 impl fmt::Display for MemoryMap {
     ghost output = { λ x. Some (map_text x.0) };
 
@@ -90,29 +95,23 @@ impl fmt::Display for MemoryMap {
 
 // What is printed of a record: the map of the description in it, or the line of its refusal.
 #[derive(Clone, Copy)]
-pub enum Report {
-    Taken(Description),
-    Refused(DescriptionRefusal),
-}
+pub struct Report(pub Result<Description, DescriptionRefusal>);
 
-impl Report {
-    pub fn of(bytes: &[u8]) -> Report
-        ensures { Reported bytes.now result }
-    {
-        match Description::read(bytes) {
-            Ok(description) => Report::Taken(description),
-            Err(refusal) => Report::Refused(refusal),
-        }
+impl From<&[u8]> for Report {
+    ghost from_gives = { λ bytes report. Read bytes.now report.0 };
+
+    fn from(bytes: &[u8]) -> Report {
+        Report(Description::try_from(bytes))
     }
 }
 
 impl fmt::Display for Report {
-    ghost output = { λ x. Some (report_text x) };
+    ghost output = { λ x. Some (report_text x.0) };
 
     fn fmt<W: fmt::Write>(&self, f: &mut fmt::Formatter<W>) -> fmt::Result {
-        match *self {
-            Report::Taken(description) => write!(f, "{}", MemoryMap(description)),
-            Report::Refused(refusal) => write!(f, "{}\n", Line::from(&refusal)),
+        match self.0 {
+            Ok(description) => write!(f, "{}", MemoryMap(description)),
+            Err(refusal) => write!(f, "{}\n", Line::from(&refusal)),
         }
     }
 }

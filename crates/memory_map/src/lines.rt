@@ -13,6 +13,7 @@ pub struct SpanLine<'a> {
     pub label: &'a str,
 }
 
+#[tactic(auto, unfolding(crate::specs::Maps::span_line))]
 impl fmt::Display for SpanLine<'_> {
     ghost output = { λ x. Some (span_line x.span x.label.now) };
 
@@ -28,6 +29,7 @@ pub struct NumberLine<'a> {
     pub label: &'a str,
 }
 
+#[tactic(auto, unfolding(crate::specs::Maps::number_line))]
 impl fmt::Display for NumberLine<'_> {
     ghost output = { λ x. Some (number_line x.number x.label.now) };
 
@@ -40,6 +42,7 @@ impl fmt::Display for NumberLine<'_> {
 #[derive(Clone, Copy)]
 pub struct VectorLine(pub Vector);
 
+#[tactic(auto, unfolding(crate::specs::Maps::vector_line))]
 impl fmt::Display for VectorLine {
     ghost output = { λ x. Some (vector_line x.0) };
 

@@ -9,15 +9,13 @@ use std::process::ExitCode;
 
 fn run(rt: &HostRuntime) -> anyhow::Result<()> {
     let mut input = Vec::new(rt.alloc());
-    // one byte more than a record has tells that the input is too long
+    // one byte more than a record has tells that the input is too long; no `From` widens a usize
     let most = Description::LENGTH as u64 + 1;
     rt.stdin().take(most).read_to_end(&mut input)?;
-    let report = Report::of(&input);
+    let report = Report::from(&input[..]);
     print!(rt; "{report}")?;
-    match report {
-        Report::Taken(_) => Ok(()),
-        Report::Refused(refusal) => Err(refusal.into()),
-    }
+    report.0?;
+    Ok(())
 }
 
 fn main(rt: HostRuntime) -> ExitCode {
