@@ -1,4 +1,4 @@
-use Rattle.std.specs.Prelude.{◌≡◌, ℕ, ◌+◌, ◌-◌, ◌<◌, Bool, true, cond, nat_le, nat_lt}
+use Rattle.std.specs.Prelude.{◌≡◌, ℕ, ◌+◌, ◌-◌, ◌<◌, Bool, true, if◌then◌else◌, nat_le, nat_lt}
 use Rattle.region.specs.Spans.{span, Within, Inside, vector_address}
 use Rattle.device.specs.declared.description.Description.{Description}
 use Rattle.region.specs.declared.Region.{Region}
@@ -16,7 +16,7 @@ region_span d Image = span d.code_start 0xFFFF
 
 -- the region of an address
 abbrev pub region_of : Description → ℕ → Region
-region_of d a = cond (nat_lt a 0x0080) Window (cond (nat_le a d.ram_end) Ram (cond (nat_le d.code_start a) Image Unmapped))
+region_of d a = if nat_lt a 0x0080 then Window else (if nat_le a d.ram_end then Ram else (if nat_le d.code_start a then Image else Unmapped))
 
 -- each of the 65,536 addresses lies in the region that it is said to lie in, and in no other
 abbrev pub Partition : Description → Type 0

@@ -67,7 +67,7 @@ impl fmt::Display for PartLines {
             label: "code region",
         };
         let length = NumberLine {
-            // no `From` narrows, and the proofs have it that no image is too long
+            // the proofs show that a u16 holds the length of every image
             number: self.0.image_length() as u16,
             label: "image length",
         };
