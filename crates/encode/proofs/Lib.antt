@@ -1,4 +1,3 @@
-pub mod Writing
 pub mod Opcodes
 pub mod Reading
 pub mod Back

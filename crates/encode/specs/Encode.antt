@@ -1,13 +1,14 @@
 -- The bytes of an instruction.
-use Rattle.std.specs.Prelude.{ℕ, ◌/◌, ◌%◌, Bool, true, false, cond, List, [], ◌∷◌, ◌++◌, Some, None, Option, nat_lt}
+use Rattle.std.specs.Prelude.{ℕ, ◌/◌, ◌%◌, cond, List, [], ◌∷◌, ◌++◌, Some, None, Option, nat_lt}
 use Rattle.std.proofs.Common.{of_z}
 use Rattle.std.specs.Int.{w8}
-use Rattle.instruction.specs.declared.mode.Index.{Index}
-use Rattle.instruction.specs.declared.mode.Index.TheVariants.{X, Y}
+use Rattle.instruction.specs.declared.prebyte.Prebyte.{Prebyte}
 use Rattle.instruction.specs.declared.instruction.Operand.{Operand}
 use Rattle.instruction.specs.declared.instruction.Operand.TheVariants as O
 use Rattle.instruction.specs.declared.instruction.Instruction.{Instruction}
-use Rattle.instruction.specs.Modes.{mode_of, direct_of, is_indirect}
+use Rattle.instruction.specs.Modes.{mode_of, direct_of}
+use Rattle.instruction.specs.Prebytes.{byte_of}
+use Rattle.instruction.specs.Rows.{prebyte_of}
 use Rattle.isa.specs.Forms.{allowed}
 use Rattle.encode.specs.Places.{opcode_in}
 
@@ -55,21 +56,10 @@ tail_of (O.RelativePointer a) = a ∷ []
 tail_of (O.BitPointer k a) = a ∷ []
 tail_of (O.BitPointerRelative k a z) = a ∷ of_z w8 z ∷ []
 
--- the prebyte of an index register, with a pointer or without, if there is one
-abbrev pub prebyte_in : Index → Bool → Option ℕ
-prebyte_in X false = None
-prebyte_in Y false = Some 0x90
-prebyte_in Y true = Some 0x91
-prebyte_in X true = Some 0x92
-
--- bytes behind a prebyte, if there is one
-abbrev pub prefixed : Option ℕ → List ℕ → List ℕ
-prefixed None xs = xs
-prefixed (Some p) xs = p ∷ xs
-
 -- the prebyte as a list of one byte, or of none
-abbrev pub prebyte_for : Index → Bool → List ℕ
-prebyte_for i indirect = prefixed (prebyte_in i indirect) []
+abbrev pub prefix : Option Prebyte → List ℕ
+prefix None = []
+prefix (Some p) = byte_of p ∷ []
 
 -- the opcode of an instruction, if its operation has such a mode and its bit is 0 to 7
 abbrev pub opcode_of : Instruction → Option ℕ
@@ -80,7 +70,7 @@ abbrev pub written : Instruction → Option ℕ → Option (List ℕ)
 written i None = None
 written i (Some n) =
     cond (allowed i.index i.operation (direct_of (mode_of i.operand)))
-    (Some (prebyte_for i.index (is_indirect (mode_of i.operand)) ++ (n ∷ tail_of i.operand)))
+    (Some (prefix (prebyte_of i) ++ (n ∷ tail_of i.operand)))
     None
 
 -- the bytes of an instruction; none of a value that is no instruction

@@ -1,6 +1,5 @@
 pub mod Places
 pub mod Encode
-pub mod Codes
 pub mod Buffer
 pub mod Laws
 pub mod Refusals

@@ -1,172 +1,83 @@
 // The encoder.
-ghost use Rattle.std.specs.Prelude.{◌≡◌, ◌≤◌, ◌∷◌, length, take, Some};
-ghost use Rattle.instruction.specs.Modes.{mode_of, operand_bytes};
+ghost use Rattle.std.specs.Prelude.{◌≡◌, ◌≤◌, ◌∷◌, ◌++◌, length, Some, option_map};
+ghost use Rattle.arrayvec.specs.ArrayVec.{array_vec_len};
 ghost use Rattle.isa.specs.Decode.{decode_of};
 ghost use Rattle.encode.specs.Buffer.{answer, buffer, length_taken, copied};
-ghost use Rattle.encode.specs.Codes.{code_bytes, code_list, Fits};
-ghost use Rattle.encode.specs.Encode.{bit_of, tail_of, prebyte_in, prefixed, opcode_of, encode_of};
+ghost use Rattle.encode.specs.Encode.{tail_of, prefix, encode_of};
 ghost use Rattle.encode.specs.Laws.{Signed, ReadsBack, WritesBack};
 
 use crate::places::opcode;
 use crate::refusals::EncodeRefusal;
-use isa::{DecodeFault, Index, Instruction, Mode, Operand, allows, decode};
+use arrayvec::ArrayVec;
+use isa::{DecodeFault, Instruction, Operand, Prebyte, allows, decode};
 
-// The bytes of an instruction, with zeros up to four.
-#[derive(Clone, Copy)]
-pub struct Code {
-    bytes: [u8; 4],
-    length: usize,
+fn push_both(bytes: [u8; 2], code: &mut ArrayVec<u8, 4>)
+    requires { array_vec_len code.old ≤ 2 }
+    ensures { code.new.items ≡ code.old.items ++ bytes }
+{
+    let [first, second] = bytes;
+    code.push(first);
+    code.push(second);
 }
 
-fn bit(operand: Operand) -> u8
-    ensures { result ≡ bit_of operand }
+// Puts the bytes that follow the opcode behind it.
+fn push_operand(operand: Operand, code: &mut ArrayVec<u8, 4>)
+    requires { array_vec_len code.old ≤ 2 }
+    ensures value { code.new.items ≡ code.old.items ++ tail_of operand }
+    ensures signed { Signed operand }
 {
     match operand {
-        Operand::Bit { bit, .. }
-        | Operand::BitRelative { bit, .. }
-        | Operand::BitPointer { bit, .. }
-        | Operand::BitPointerRelative { bit, .. } => bit,
-        _ => 0,
-    }
-}
-
-// How many bytes follow the opcode.
-fn operand_bytes(mode: Mode) -> usize
-    ensures { result ≡ operand_bytes mode }
-{
-    match mode {
-        Mode::Inherent | Mode::Accumulator | Mode::IndexRegister | Mode::Indexed => 0,
-        Mode::Long | Mode::LongIndexed | Mode::BitRelative | Mode::BitPointerRelative => 2,
-        _ => 1,
-    }
-}
-
-// The bytes that follow the opcode, with zeros up to two.
-fn tail(operand: Operand) -> [u8; 2]
-    ensures { take (operand_bytes (mode_of operand)) result ≡ tail_of operand }
-{
-    match operand {
-        Operand::Inherent => [0, 0],
-        Operand::Accumulator => [0, 0],
-        Operand::IndexRegister => [0, 0],
-        Operand::Immediate(byte) => [byte, 0],
-        Operand::Short(address) => [address, 0],
-        Operand::Long(word) => [(word / 256) as u8, (word % 256) as u8],
-        Operand::Indexed => [0, 0],
-        Operand::ShortIndexed(offset) => [offset, 0],
-        Operand::LongIndexed(word) => [(word / 256) as u8, (word % 256) as u8],
-        Operand::Relative(offset) => [offset.cast_unsigned(), 0],
-        Operand::Bit { address, .. } => [address, 0],
+        Operand::Inherent | Operand::Accumulator | Operand::IndexRegister | Operand::Indexed => {}
+        Operand::Immediate(byte)
+        | Operand::Short(byte)
+        | Operand::ShortIndexed(byte)
+        | Operand::ShortPointer(byte)
+        | Operand::LongPointer(byte)
+        | Operand::ShortPointerIndexed(byte)
+        | Operand::LongPointerIndexed(byte)
+        | Operand::RelativePointer(byte)
+        | Operand::Bit { address: byte, .. }
+        | Operand::BitPointer { pointer: byte, .. } => code.push(byte),
+        Operand::Long(word) | Operand::LongIndexed(word) => push_both(word.to_be_bytes(), code),
+        Operand::Relative(offset) => code.push(offset.cast_unsigned()),
         Operand::BitRelative {
             address,
             offset,
             ..
-        } => [address, offset.cast_unsigned()],
-        Operand::ShortPointer(pointer) => [pointer, 0],
-        Operand::LongPointer(pointer) => [pointer, 0],
-        Operand::ShortPointerIndexed(pointer) => [pointer, 0],
-        Operand::LongPointerIndexed(pointer) => [pointer, 0],
-        Operand::RelativePointer(pointer) => [pointer, 0],
-        Operand::BitPointer { pointer, .. } => [pointer, 0],
+        } => push_both([address, offset.cast_unsigned()], code),
         Operand::BitPointerRelative {
             pointer,
             offset,
             ..
-        } => [pointer, offset.cast_unsigned()],
+        } => push_both([pointer, offset.cast_unsigned()], code),
     }
 }
 
-fn prebyte(index: Index, indirect: bool) -> Option<u8>
-    ensures { result ≡ prebyte_in index indirect }
+fn join(prebyte: Option<Prebyte>, opcode: u8, operand: Operand) -> ArrayVec<u8, 4>
+    ensures value { result.items ≡ prefix prebyte ++ (opcode ∷ tail_of operand) }
+    ensures signed { Signed operand }
 {
-    match (index, indirect) {
-        (Index::X, false) => None,
-        (Index::Y, false) => Some(0x90),
-        (Index::Y, true) => Some(0x91),
-        (Index::X, true) => Some(0x92),
+    let mut code = ArrayVec::new();
+    if let Some(prebyte) = prebyte {
+        code.push(u8::from(prebyte));
     }
+    code.push(opcode);
+    push_operand(operand, &mut code);
+    code
 }
 
-// The opcode of an instruction, if its operation has such a mode and its bit is 0 to 7.
-fn opcode_for(instruction: Instruction) -> Option<u8>
-    ensures { result ≡ opcode_of instruction }
+// The bytes of an instruction, if it is one of the ST7.
+#[tactic(auto, using(crate::proofs::Reading::reads_back, crate::proofs::Reading::none_back), unfolding(crate::specs::Encode::encode_of))]
+fn code_for(instruction: Instruction) -> Option<ArrayVec<u8, 4>>
+    ensures value { option_map (λ code. code.items) result ≡ encode_of instruction }
+    ensures reads_back { ReadsBack instruction }
 {
-    let bit = bit(instruction.operand);
-    if bit >= 8 {
+    let opcode = opcode(instruction)?;
+    let mode = instruction.operand.mode().direct();
+    if !allows(instruction.index, instruction.operation, mode) {
         return None;
     }
-    opcode(
-        instruction.operation,
-        instruction.operand.mode().direct(),
-        bit,
-    )
-}
-
-fn join(prebyte: Option<u8>, opcode: u8, operand: Operand) -> Code
-    ensures value { code_bytes result ≡ prefixed prebyte (opcode ∷ tail_of operand) }
-    ensures few { result.length ≤ 4 }
-    ensures four { length result.bytes ≡ 4 }
-{
-    let [a, b] = tail(operand);
-    let count = operand_bytes(operand.mode());
-    match prebyte {
-        None => Code {
-            bytes: [opcode, a, b, 0],
-            length: 1 + count,
-        },
-        Some(p) => Code {
-            bytes: [p, opcode, a, b],
-            length: 2 + count,
-        },
-    }
-}
-
-fn code_for(instruction: Instruction) -> Option<Code>
-    ensures value { code_list result ≡ encode_of instruction }
-    ensures fits { Fits result }
-{
-    let opcode = opcode_for(instruction)?;
-    let mode = instruction.operand.mode();
-    if !allows(instruction.index, instruction.operation, mode.direct()) {
-        return None;
-    }
-    let prebyte = prebyte(instruction.index, mode.is_indirect());
-    Some(join(prebyte, opcode, instruction.operand))
-}
-
-fn put(code: Code, out: &mut [u8]) -> Result<usize, EncodeRefusal>
-    requires { (code.length ≤ 4) × (length code.bytes ≡ 4) }
-    ensures answers { result ≡ answer (length out.old) (Some (code_bytes code)) }
-    ensures leaves { out.new ≡ buffer out.old (Some (code_bytes code)) }
-{
-    let length = code.length;
-    if out.len() < length {
-        return Err(EncodeRefusal::ShortBuffer);
-    }
-    out[0..length].copy_from_slice(&code.bytes[0..length]);
-    Ok(length)
-}
-
-fn write(instruction: Instruction, out: &mut [u8]) -> Result<usize, EncodeRefusal>
-    ensures answers { result ≡ answer (length out.old) (encode_of instruction) }
-    ensures leaves { out.new ≡ buffer out.old (encode_of instruction) }
-{
-    match code_for(instruction) {
-        Some(code) => put(code, out),
-        None => Err(EncodeRefusal::NoInstruction),
-    }
-}
-
-// The relative offset of an operand that has one. The clause says of it what its type says: it is a signed byte.
-fn offset(operand: Operand) -> Option<i8>
-    ensures { Signed operand }
-{
-    match operand {
-        Operand::Relative(offset) => Some(offset),
-        Operand::BitRelative { offset, .. } => Some(offset),
-        Operand::BitPointerRelative { offset, .. } => Some(offset),
-        _ => None,
-    }
+    Some(join(instruction.prebyte(), opcode, instruction.operand))
 }
 
 // Writes the bytes of an instruction into the front of the buffer, and answers how many there are. Decoded, they are the
@@ -176,12 +87,17 @@ pub fn encode(instruction: &Instruction, out: &mut [u8]) -> Result<usize, Encode
     ensures leaves { out.new ≡ buffer out.old (encode_of instruction.now) }
     ensures reads_back { ReadsBack instruction.now }
 {
-    let _ = offset(instruction.operand);
-    write(*instruction, out)
+    let code = code_for(*instruction).ok_or(EncodeRefusal::NoInstruction)?;
+    if out.len() < code.len() {
+        return Err(EncodeRefusal::ShortBuffer);
+    }
+    out[..code.len()].copy_from_slice(&code);
+    Ok(code.len())
 }
 
 // Decodes the instruction at the start of the bytes and encodes it again, into the front of the buffer: these are the same
 // bytes. Answers how many there are.
+#[tactic(auto, using(crate::proofs::Again::copied_is, crate::proofs::Back::writes_back))]
 pub fn reencode(bytes: &[u8], out: &mut [u8; 4]) -> Result<usize, DecodeFault>
     ensures answers { result ≡ length_taken (decode_of bytes.now) }
     ensures leaves { out.new ≡ copied bytes.now out.old (decode_of bytes.now) }

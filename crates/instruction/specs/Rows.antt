@@ -2,15 +2,15 @@
 --   inherent, A, X, #byte, short, long, (X), (short,X), (long,X), relative, bit, bit and relative, and then for lengths
 --   [short], [long.w], ([short],X), ([long.w],X), [relative], [bit], [bit] and relative.
 -- 0 stands where the operation has no such mode.
-use Rattle.std.specs.Prelude.{ℕ, ◌+◌, Bool, true, false, cond, List, [], ◌∷◌, ◌==◌, slice_index}
+use Rattle.std.specs.Prelude.{ℕ, ◌+◌, cond, List, [], ◌∷◌, Option, ◌==◌, slice_index}
 use Rattle.operation.specs.declared.Operation.{Operation}
 use Rattle.operation.specs.declared.Operation.TheVariants.{Sub, Cp, Sbc, CpIndex, And, Bcp, Ld, St, Xor, Adc, Or, Add, Jp, Call, LdIndex, StIndex, Callr, Neg, Cpl, Srl, Rrc, Sra, Sll, Rlc, Dec, Inc, Tnz, Swap, Clr, Mul, Jra, Jrf, Jrugt, Jrule, Jrnc, Jrc, Jrne, Jreq, Jrnh, Jrh, Jrpl, Jrmi, Jrnm, Jrm, Jril, Jrih, Btjt, Btjf, Bset, Bres, Iret, Ret, Trap, PopA, PopIndex, PopCc, PushA, PushIndex, PushCc, Halt, Wfi, LdIndexFromOther, LdSFromIndex, LdSFromA, LdIndexFromS, LdIndexFromA, Rcf, Scf, Rim, Sim, Rsp, Nop, LdAFromS, LdAFromIndex}
 use Rattle.instruction.specs.declared.mode.Mode.{Mode}
-use Rattle.instruction.specs.declared.mode.Index.{Index}
-use Rattle.instruction.specs.declared.mode.Index.TheVariants.{X, Y}
+use Rattle.instruction.specs.declared.prebyte.Prebyte.{Prebyte}
 use Rattle.instruction.specs.declared.instruction.Instruction.{Instruction}
 use Rattle.instruction.specs.Order.{mode_number}
 use Rattle.instruction.specs.Modes.{mode_of, direct_of, is_indirect}
+use Rattle.instruction.specs.Prebytes.{prebyte_for, prebyte_cycles, prebyte_length}
 
 -- cycles where an operand is read into a register
 abbrev pub reading : List ℕ
@@ -242,30 +242,18 @@ row_cycles o m = slice_index (cycle_row o) (mode_number m)
 abbrev pub row_length : Operation → Mode → ℕ
 row_length o m = slice_index (length_row o) (mode_number m)
 
--- the cycles that a prebyte adds: 1 for $90, which puts Y for X, and 2 for $91 and $92, which stand for a pointer
-abbrev pub prebyte_cycles : Index → Bool → ℕ
-prebyte_cycles X false = 0
-prebyte_cycles Y false = 1
-prebyte_cycles X true = 2
-prebyte_cycles Y true = 2
-
--- the bytes that a prebyte adds
-abbrev pub prebyte_length : Index → Bool → ℕ
-prebyte_length X false = 0
-prebyte_length Y false = 1
-prebyte_length X true = 1
-prebyte_length Y true = 1
-
 -- a number of a row with what a prebyte adds to it; where the row has none there is nothing to add to
 abbrev pub with_prebyte : ℕ → ℕ → ℕ
 with_prebyte n more = cond (n == 0) 0 (n + more)
 
+-- the prebyte of an instruction, if it has one
+abbrev pub prebyte_of : Instruction → Option Prebyte
+prebyte_of i = prebyte_for i.index (is_indirect (mode_of i.operand))
+
 -- the cycles that an instruction takes
 unfoldable pub cycles_of : Instruction → ℕ
-cycles_of i =
-    with_prebyte (row_cycles i.operation (direct_of (mode_of i.operand))) (prebyte_cycles i.index (is_indirect (mode_of i.operand)))
+cycles_of i = with_prebyte (row_cycles i.operation (direct_of (mode_of i.operand))) (prebyte_cycles (prebyte_of i))
 
 -- the bytes that an instruction has
 unfoldable pub length_of : Instruction → ℕ
-length_of i =
-    with_prebyte (row_length i.operation (mode_of i.operand)) (prebyte_length i.index (is_indirect (mode_of i.operand)))
+length_of i = with_prebyte (row_length i.operation (mode_of i.operand)) (prebyte_length (prebyte_of i))

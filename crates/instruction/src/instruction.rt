@@ -1,9 +1,10 @@
 // Instructions as values.
-ghost use Rattle.std.specs.Prelude.{◌≡◌};
+ghost use Rattle.std.specs.Prelude.{◌≡◌, ◌+◌, ◌<◌};
 ghost use Rattle.instruction.specs.Modes.{mode_of};
-ghost use Rattle.instruction.specs.Rows.{prebyte_cycles, prebyte_length, cycles_of, length_of};
+ghost use Rattle.instruction.specs.Rows.{with_prebyte, prebyte_of, cycles_of, length_of};
 
 use crate::mode::{Index, Mode};
+use crate::prebyte::Prebyte;
 use operation::Operation;
 
 // An operand with its numbers. A short address, an offset from an index register and the address of a pointer are
@@ -68,47 +69,40 @@ impl Operand {
     }
 }
 
-// The cycles that a prebyte adds.
-fn cycles_added(index: Index, indirect: bool) -> u8
-    ensures { result ≡ prebyte_cycles index indirect }
+// A number of a row with what the prebyte adds to it; where the row has none there is nothing to add to.
+fn with_prebyte(own: u8, added: u8) -> u8
+    requires { own + added < 256 }
+    ensures { result ≡ with_prebyte own added }
 {
-    match (index, indirect) {
-        (_, true) => 2,
-        (Index::Y, false) => 1,
-        (Index::X, false) => 0,
-    }
-}
-
-// The bytes that a prebyte adds.
-fn bytes_added(index: Index, indirect: bool) -> u8
-    ensures { result ≡ prebyte_length index indirect }
-{
-    match (index, indirect) {
-        (Index::X, false) => 0,
-        _ => 1,
+    match own {
+        0 => 0,
+        own => own + added,
     }
 }
 
 impl Instruction {
+    // The prebyte that stands before the opcode, if one does.
+    pub fn prebyte(self) -> Option<Prebyte>
+        ensures { result ≡ prebyte_of self }
+    {
+        Prebyte::of(self.index, self.operand.mode().is_indirect())
+    }
+
     // The cycles that the instruction takes; 0 where its operation has no such mode.
+    #[tactic(auto, unfolding(crate::specs::Rows::cycles_of))]
     pub fn cycles(self) -> u8
         ensures { result ≡ cycles_of self }
     {
-        let mode = self.operand.mode();
-        match mode.direct().cycles(self.operation) {
-            0 => 0,
-            own => own + cycles_added(self.index, mode.is_indirect()),
-        }
+        let own = self.operand.mode().direct().cycles(self.operation);
+        with_prebyte(own, self.prebyte().map_or(0, Prebyte::cycles))
     }
 
     // The bytes that the instruction has; 0 where its operation has no such mode.
+    #[tactic(auto, unfolding(crate::specs::Rows::length_of))]
     pub fn length(self) -> u8
         ensures { result ≡ length_of self }
     {
-        let mode = self.operand.mode();
-        match mode.length(self.operation) {
-            0 => 0,
-            own => own + bytes_added(self.index, mode.is_indirect()),
-        }
+        let own = self.operand.mode().length(self.operation);
+        with_prebyte(own, u8::from(self.prebyte().is_some()))
     }
 }

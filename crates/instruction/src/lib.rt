@@ -3,8 +3,10 @@
 
 pub mod instruction;
 pub mod mode;
+pub mod prebyte;
 mod rows;
 
 pub use instruction::{Instruction, Operand};
 pub use mode::{Index, Mode};
 pub use operation::Operation;
+pub use prebyte::{NoPrebyte, Prebyte};

@@ -1,7 +1,7 @@
 // Addressing modes and index registers.
 ghost use Rattle.std.specs.Prelude.{◌≡◌};
 ghost use Rattle.instruction.specs.Indexes.{is_indexed};
-ghost use Rattle.instruction.specs.Modes.{indirect_of, direct_of, is_indirect};
+ghost use Rattle.instruction.specs.Modes.{indirect_of, direct_of, is_indirect, operand_bytes};
 
 // How an instruction's operand is found. In the last seven a pointer in memory stands in for the operand's address or
 // offset: they are the indirect modes.
@@ -96,6 +96,17 @@ impl Mode {
             | Mode::ShortPointerIndexed
             | Mode::LongPointerIndexed => true,
             _ => false,
+        }
+    }
+
+    // How many bytes follow the opcode.
+    pub fn operand_bytes(self) -> usize
+        ensures { result ≡ operand_bytes self }
+    {
+        match self {
+            Mode::Inherent | Mode::Accumulator | Mode::IndexRegister | Mode::Indexed => 0,
+            Mode::Long | Mode::LongIndexed | Mode::BitRelative | Mode::BitPointerRelative => 2,
+            _ => 1,
         }
     }
 }

@@ -22,6 +22,7 @@ const CHANGING: [u8; 12] = [0, 3, 3, 0, 5, 0, 5, 6, 0, 0, 0, 0];
 
 const TESTING: [u8; 12] = [0, 3, 3, 0, 4, 0, 4, 5, 0, 0, 0, 0];
 
+// A constant's value calls no function, so each number of cycles has a row of its own.
 const INHERENT_2: [u8; 12] = [2, 0, 0, 0, 0, 0, 0, 0, 0, 0, 0, 0];
 
 const INHERENT_3: [u8; 12] = [3, 0, 0, 0, 0, 0, 0, 0, 0, 0, 0, 0];

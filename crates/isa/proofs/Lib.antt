@@ -1,3 +1,4 @@
+pub mod Below
 pub mod Sizes
 pub mod Decoding
 pub mod Forms

@@ -1,8 +1,8 @@
 -- The rows of lengths have, for every opcode and prebyte, the opcode's byte and those of its mode's operand.
-use Rattle.std.proofs.Common.{◌≡◌, ℕ, ◌+◌, ◌<◌, Bool, true, false, eqb, map, get_or, Some, None, Option, sym, refl, ap, ◌∙◌, arith}
+use Rattle.std.proofs.Common.{◌≡◌, ℕ, ◌+◌, ◌<◌, Bool, true, false, eqb, map, Some, None, Option, sym, refl, ap, ◌∙◌}
 use Rattle.std.specs.List.{range_with_len}
-use Rattle.std.proofs.lemmas.List.FromFn.{get_or-map-range_with_len}
 use Rattle.std.proofs.lemmas.Bool.{eqb-true}
+use Rattle.isa.proofs.Below.{same_below}
 use Rattle.instruction.specs.declared.mode.Index.{Index}
 use Rattle.instruction.specs.declared.mode.Index.TheVariants.{X, Y}
 use Rattle.instruction.specs.Modes.{operand_bytes}
@@ -21,9 +21,7 @@ all_sized Y false = refl
 all_sized Y true = refl
 
 each_sized : (i : Index) (b : Bool) (n : ℕ) → n < 256 → sized (form_at i b n) ≡ true
-each_sized i b n h =
-    sym (get_or-map-range_with_len (λ n. sized (form_at i b n)) 0 256 n n true h (omega arith))
-    ∙ (ap (λ xs. get_or xs n true) (all_sized i b) ∙ get_or-map-range_with_len (λ n. true) 0 256 n n true h (omega arith))
+each_sized i b n h = same_below (λ n. sized (form_at i b n)) (λ n. true) 256 (all_sized i b) n h
 
 pub form_sized :
     (i : Index) (b : Bool) (n : ℕ) (f : Form) → n < 256 → form_at i b n ≡ Some f

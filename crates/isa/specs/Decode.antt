@@ -1,39 +1,18 @@
 -- The instruction at the start of a list of bytes.
-use Rattle.std.specs.Prelude.{ℕ, ◌+◌, ◌*◌, ◌/◌, ◌%◌, Bool, true, false, cond, List, [], ◌∷◌, length, Some, None, Ok, Err, Option, Result, ◌==◌, nat_le, nat_lt, slice_index}
+use Rattle.std.specs.Prelude.{ℕ, ◌+◌, ◌*◌, ◌/◌, ◌%◌, cond, List, length, Some, None, Ok, Err, Option, Result, nat_le, nat_lt, slice_index}
 use Rattle.instruction.specs.declared.mode.Mode.{Mode}
 use Rattle.instruction.specs.declared.mode.Mode.TheVariants.{Inherent, Accumulator, IndexRegister, Immediate, Short, Long, Indexed, ShortIndexed, LongIndexed, Relative, Bit, BitRelative, ShortPointer, LongPointer, ShortPointerIndexed, LongPointerIndexed, RelativePointer, BitPointer, BitPointerRelative}
-use Rattle.instruction.specs.declared.mode.Index.{Index}
-use Rattle.instruction.specs.declared.mode.Index.TheVariants.{X, Y}
+use Rattle.instruction.specs.declared.prebyte.Prebyte.{Prebyte}
 use Rattle.instruction.specs.declared.instruction.Operand.{Operand}
 use Rattle.instruction.specs.declared.instruction.Operand.TheVariants as O
 use Rattle.instruction.specs.Modes.{operand_bytes}
+use Rattle.instruction.specs.Prebytes.{byte_of, prebyte_at, prebyte_length}
 use Rattle.isa.specs.declared.opcode.Form.{Form}
 use Rattle.isa.specs.declared.decoder.Decoded.{Decoded}
 use Rattle.isa.specs.declared.fault.DecodeFault.{DecodeFault}
 use Rattle.isa.specs.declared.fault.DecodeFault.TheVariants.{Void, Outside}
-use Rattle.isa.specs.Forms.{form_at}
+use Rattle.isa.specs.Forms.{form_behind}
 use Rattle.isa.specs.Relative.{signed}
-
--- whether a number is in a list
-abbrev pub one_of : List ℕ → ℕ → Bool
-one_of [] n = false
-one_of (x ∷ xs) n = cond (n == x) true (one_of xs n)
-
--- a first byte that is a prebyte
-abbrev pub prebyte_of : ℕ → Option ℕ
-prebyte_of b = cond (one_of (0x90 ∷ 0x91 ∷ 0x92 ∷ []) b) (Some b) None
-
--- where the opcode stands, by the first byte
-abbrev pub opcode_place : ℕ → ℕ
-opcode_place b = cond (one_of (0x90 ∷ 0x91 ∷ 0x92 ∷ []) b) 1 0
-
--- the index register, by the first byte
-abbrev pub index_by : ℕ → Index
-index_by b = cond (one_of (0x90 ∷ 0x91 ∷ []) b) Y X
-
--- whether a pointer stands in the operand's place, by the first byte
-abbrev pub indirect_by : ℕ → Bool
-indirect_by b = one_of (0x91 ∷ 0x92 ∷ []) b
 
 -- the bit that an opcode with a bit holds
 abbrev pub bit_in : ℕ → ℕ
@@ -71,16 +50,20 @@ completed bs k n f =
       length = k + 1 + operand_bytes f.mode;
     }))
 
+-- a prebyte as it is told of a void code: by its byte, if there is one
+abbrev pub prebyte_told : Option Prebyte → Option ℕ
+prebyte_told None = None
+prebyte_told (Some p) = Some (byte_of p)
+
 -- an opcode that stands for nothing is void, whatever follows it
-abbrev pub found : List ℕ → Option ℕ → ℕ → ℕ → Option Form → Result Decoded DecodeFault
-found bs p k n None = Err (Void (record { prebyte = p; opcode = n }))
+abbrev pub found : List ℕ → Option Prebyte → ℕ → ℕ → Option Form → Result Decoded DecodeFault
+found bs p k n None = Err (Void (record { prebyte = prebyte_told p; opcode = n }))
 found bs p k n (Some f) = completed bs k n f
 
--- the same with the first byte b and the opcode at the place k
-abbrev pub decode_at : List ℕ → ℕ → ℕ → Result Decoded DecodeFault
-decode_at bs b k =
-    cond (nat_le (length bs) k) (Err Outside) (found bs (prebyte_of b) k (slice_index bs k) (form_at (index_by b) (indirect_by b) (slice_index bs k)))
+-- the same with the opcode read at the place k
+abbrev pub decode_at : List ℕ → Option Prebyte → ℕ → Result Decoded DecodeFault
+decode_at bs p k = cond (nat_le (length bs) k) (Err Outside) (found bs p k (slice_index bs k) (form_behind p (slice_index bs k)))
 
--- the instruction at the start of the bytes, and its length; or why there is none
+-- the instruction at the start of the bytes, and its length; or why there is none. The first byte is a prebyte, or the opcode itself
 unfoldable pub decode_of : List ℕ → Result Decoded DecodeFault
-decode_of bs = decode_at bs (slice_index bs 0) (opcode_place (slice_index bs 0))
+decode_of bs = decode_at bs (prebyte_at (slice_index bs 0)) (prebyte_length (prebyte_at (slice_index bs 0)))

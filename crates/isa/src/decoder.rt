@@ -1,13 +1,11 @@
 // The decoder.
-ghost use Rattle.std.specs.Prelude.{◌≡◌, ◌+◌, ◌<◌, slice_index};
-ghost use Rattle.instruction.specs.Modes.{operand_bytes};
-ghost use Rattle.instruction.specs.Rows.{row_length};
+ghost use Rattle.std.specs.Prelude.{◌≡◌, ◌<◌, slice_index};
 ghost use Rattle.isa.specs.Laws.{Sized, Timed};
-ghost use Rattle.isa.specs.Decode.{prebyte_of, opcode_place, index_by, indirect_by, operand_of, completed, decode_of};
+ghost use Rattle.isa.specs.Decode.{operand_of, completed, decode_of};
 
 use crate::fault::DecodeFault;
-use crate::opcode::{Form, form_at};
-use instruction::{Index, Instruction, Mode, Operand};
+use crate::opcode::{Form, form_behind};
+use instruction::{Instruction, Mode, Operand, Prebyte};
 use refusal::VoidCode;
 
 // An instruction, and how many bytes it has.
@@ -17,46 +15,11 @@ pub struct Decoded {
     pub length: usize,
 }
 
+// The byte at a place, and 0 past the end.
 fn byte(bytes: &[u8], i: usize) -> u8
     ensures { result ≡ slice_index bytes.now i }
 {
-    if i < bytes.len() { bytes[i] } else { 0 }
-}
-
-fn prebyte_in(first: u8) -> Option<u8>
-    ensures { result ≡ prebyte_of first }
-{
-    if first == 0x90 || first == 0x91 || first == 0x92 {
-        Some(first)
-    } else {
-        None
-    }
-}
-
-fn opcode_at(first: u8) -> usize
-    ensures { result ≡ opcode_place first }
-{
-    if first == 0x90 || first == 0x91 || first == 0x92 {
-        1
-    } else {
-        0
-    }
-}
-
-fn index_in(first: u8) -> Index
-    ensures { result ≡ index_by first }
-{
-    if first == 0x90 || first == 0x91 {
-        Index::Y
-    } else {
-        Index::X
-    }
-}
-
-fn is_indirect(first: u8) -> bool
-    ensures { result ≡ indirect_by first }
-{
-    first == 0x91 || first == 0x92
+    bytes.get(i).copied().unwrap_or(0)
 }
 
 // The operand of an opcode that the bytes `a` and `b` follow.
@@ -96,20 +59,12 @@ fn operand(mode: Mode, opcode: u8, a: u8, b: u8) -> Operand
     }
 }
 
-// How many bytes there are up to the end of the operand.
-fn end(at: usize, form: Form) -> usize
-    requires { (at < 2) × (row_length form.operation form.mode ≡ 1 + operand_bytes form.mode) }
-    ensures { result ≡ at + 1 + operand_bytes form.mode }
-{
-    at + form.mode.length(form.operation) as usize
-}
-
 // The opcode stands at the place `at`, and stands for `form`.
 fn complete(bytes: &[u8], at: usize, opcode: u8, form: Form) -> Result<Decoded, DecodeFault>
-    requires { (at < 2) × (row_length form.operation form.mode ≡ 1 + operand_bytes form.mode) }
+    requires { at < 2 }
     ensures { result ≡ completed bytes.now at opcode form }
 {
-    let length = end(at, form);
+    let length = at + 1 + form.mode.operand_bytes();
     if bytes.len() < length {
         return Err(DecodeFault::Outside);
     }
@@ -125,29 +80,20 @@ fn complete(bytes: &[u8], at: usize, opcode: u8, form: Form) -> Result<Decoded, 
     })
 }
 
-fn read(bytes: &[u8]) -> Result<Decoded, DecodeFault>
-    ensures { result ≡ decode_of bytes.now }
-{
-    let first = byte(bytes, 0);
-    let at = opcode_at(first);
-    if bytes.len() <= at {
-        return Err(DecodeFault::Outside);
-    }
-    let opcode = byte(bytes, at);
-    match form_at(index_in(first), is_indirect(first), opcode) {
-        Some(form) => complete(bytes, at, opcode, form),
-        None => Err(DecodeFault::Void(VoidCode {
-            prebyte: prebyte_in(first),
-            opcode,
-        })),
-    }
-}
-
 // The instruction at the start of the bytes.
+#[tactic(auto, using(crate::proofs::Decoding::found_is), unfolding(crate::specs::Decode::decode_of))]
 pub fn decode(bytes: &[u8]) -> Result<Decoded, DecodeFault>
     ensures value { result ≡ decode_of bytes.now }
     ensures sized { Sized bytes.now result }
     ensures timed { Timed result }
 {
-    read(bytes)
+    let prebyte = Prebyte::try_from(byte(bytes, 0)).ok();
+    let at = usize::from(prebyte.is_some());
+    let opcode = *bytes.get(at).ok_or(DecodeFault::Outside)?;
+    let void = VoidCode {
+        prebyte: prebyte.map(u8::from),
+        opcode,
+    };
+    let form = form_behind(prebyte, opcode).ok_or(DecodeFault::Void(void))?;
+    complete(bytes, at, opcode, form)
 }

@@ -8,6 +8,6 @@ pub mod relative;
 
 pub use decoder::{Decoded, decode};
 pub use fault::DecodeFault;
-pub use instruction::{Index, Instruction, Mode, Operand, Operation};
+pub use instruction::{Index, Instruction, Mode, Operand, Operation, Prebyte};
 pub use opcode::allows;
 pub use relative::relative_target;

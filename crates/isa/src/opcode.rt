@@ -1,9 +1,9 @@
 // The op-code map, and what prebytes make of it.
 ghost use Rattle.std.specs.Prelude.{◌≡◌};
-ghost use Rattle.isa.specs.Forms.{allowed, turned, form_at};
+ghost use Rattle.isa.specs.Forms.{allowed, turned, form_behind};
 ghost use Rattle.isa.specs.Map.{plain_at};
 
-use instruction::{Index, Mode, Operation};
+use instruction::{Index, Mode, Operation, Prebyte};
 
 // What an opcode stands for behind its prebyte, if it has one.
 #[derive(Clone, Copy)]
@@ -316,15 +316,16 @@ fn turn(indirect: bool, mode: Mode) -> Option<Mode>
     }
 }
 
-// What an opcode stands for, with an index register, and with a pointer in the place of its operand or without.
-pub(crate) fn form_at(index: Index, indirect: bool, opcode: u8) -> Option<Form>
-    ensures { result ≡ form_at index indirect opcode }
+// What an opcode stands for behind a prebyte, or without one.
+pub(crate) fn form_behind(prebyte: Option<Prebyte>, opcode: u8) -> Option<Form>
+    ensures { result ≡ form_behind prebyte opcode }
 {
     let (operation, mode) = unprefixed(opcode)?;
+    let index = prebyte.map_or(Index::X, Prebyte::index);
     if !allows(index, operation, mode) {
         return None;
     }
-    let mode = turn(indirect, mode)?;
+    let mode = turn(prebyte.is_some_and(Prebyte::is_indirect), mode)?;
     Some(Form {
         operation,
         mode,

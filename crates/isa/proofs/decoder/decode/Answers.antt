@@ -1,13 +1,17 @@
-use Rattle.std.proofs.Common.{sym, subst, rules}
-use Rattle.isa.specs.Laws.{Sized, Timed}
-use Rattle.isa.proofs.Laws.{lawful}
+use Rattle.std.proofs.Common.{◌≡◌, arith, rules}
+use Rattle.isa.specs.Decode.{decode_of}
+use Rattle.isa.proofs.Decoding.{found_is}
+use Rattle.isa.proofs.Laws.{sized, timed}
 use Rattle.isa.proofs.decoder.decode.Goals as goal
 
-pub returns : goal.returns
-returns c =
-    let laws = lawful c.args.bytes.now (λ k. search rules) in
-    record {
-      value = c.read.ensures;
-      sized = subst (Sized c.args.bytes.now) (sym c.read.ensures) laws.0;
-      timed = subst Timed (sym c.read.ensures) laws.1;
-    }
+pub returns-clause-sized : goal.returns-clause-sized
+unfolding decode_of
+returns-clause-sized c =
+    let e : c.complete.result ≡ decode_of c.args.bytes.now = grind (arith, found_is) in
+    sized c.args.bytes.now _ (λ k. search rules) e
+
+pub returns-clause-timed : goal.returns-clause-timed
+unfolding decode_of
+returns-clause-timed c =
+    let e : c.complete.result ≡ decode_of c.args.bytes.now = grind (arith, found_is) in
+    timed c.args.bytes.now _ (λ k. search rules) e
