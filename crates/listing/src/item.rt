@@ -4,7 +4,8 @@ ghost use Rattle.listing.specs.Pieces.{piece_of};
 
 use isa::Instruction;
 
-// What stands at an address: an instruction, or a byte that starts none.
+// What stands at an address: an instruction, or a byte that starts none. A stray byte is no instruction without a value,
+// but a case of its own.
 #[derive(Clone, Copy)]
 pub enum Item<'a> {
     Instruction {
@@ -23,8 +24,7 @@ impl<'a> Item<'a> {
         ensures { result ≡ (piece_of self.entry).address }
     {
         match self {
-            Item::Instruction { address, .. } => address,
-            Item::Stray { address, .. } => address,
+            Item::Instruction { address, .. } | Item::Stray { address, .. } => address,
         }
     }
 
@@ -32,8 +32,7 @@ impl<'a> Item<'a> {
         ensures { result.now ≡ (piece_of self.entry).bytes }
     {
         match self {
-            Item::Instruction { bytes, .. } => bytes,
-            Item::Stray { bytes, .. } => bytes,
+            Item::Instruction { bytes, .. } | Item::Stray { bytes, .. } => bytes,
         }
     }
 }

@@ -13,13 +13,9 @@ impl<'a> Items<'a> {
         ensures made { Made address bytes.now result.0 result.1.now }
         ensures joins { Joins result.0 }
     {
-        let start = address as u32;
-        let room = 65536 - start as usize;
-        let (part, past) = bytes.split_at(if bytes.len() < room {
-            bytes.len()
-        } else {
-            room
-        });
+        let start = usize::from(address);
+        let room = 65536 - start;
+        let (part, past) = bytes.split_at(bytes.len().min(room));
         (Items { start, bytes: part }, past)
     }
 }
@@ -35,6 +31,7 @@ impl<'a> Iterator for Items<'a> {
         if self.bytes.is_empty() {
             return None;
         }
+        // a byte stands there, so no bit is lost
         let address = self.start as u16;
         match decode(self.bytes) {
             Ok(decoded) => {
@@ -63,7 +60,7 @@ impl<'a> Items<'a> {
     {
         let (front, rest) = self.bytes.split_at(count);
         *self = Items {
-            start: self.start + count as u32,
+            start: self.start + count,
             bytes: rest,
         };
         front

@@ -4,7 +4,7 @@
 ghost use Rattle.std.specs.Prelude.{◌≡◌, Some};
 ghost use Rattle.notation.specs.Texts.{is_empty, operands_text, operands_of, statement_text};
 
-use crate::operand::{OperandNotation, Syntax};
+use crate::operand::OperandNotation;
 use crate::shape::Shape;
 use instruction::{Instruction, Operand};
 use std::fmt;
@@ -22,29 +22,23 @@ pub struct Operands {
 
 impl Operands {
     // Whether nothing stands behind the mnemonic.
+    #[tactic(auto, unfolding(crate::specs::Texts::operands_text))]
     fn is_empty(self) -> bool
         ensures { result ≡ is_empty (operands_text self) }
     {
-        let Shape::OperandAlone = Shape::of(self.instruction.operation) else {
-            return false;
-        };
-        match self.instruction.operand {
-            Operand::Inherent => true,
-            _ => false,
-        }
+        matches!(Shape::from(self.instruction.operation), Shape::OperandAlone)
+            && matches!(self.instruction.operand, Operand::Inherent)
     }
 }
 
 impl fmt::Display for Operands {
     ghost output = { λ x. Some (operands_text x) };
 
+    #[tactic(auto, unfolding(crate::specs::Texts::operands_text))]
     fn fmt<W: fmt::Write>(&self, f: &mut fmt::Formatter<W>) -> fmt::Result {
         let index = self.instruction.index;
-        let operand = OperandNotation {
-            syntax: Syntax::of(self.instruction.operand, self.next),
-            index,
-        };
-        match Shape::of(self.instruction.operation) {
+        let operand = OperandNotation(*self);
+        match Shape::from(self.instruction.operation) {
             Shape::OperandAlone => write!(f, "{operand}"),
             Shape::RegisterFirst(r) => write!(f, "{},{operand}", r.name(index)),
             Shape::RegisterLast(r) => write!(f, "{operand},{}", r.name(index)),
@@ -61,13 +55,16 @@ pub struct Statement {
     pub address: u16,
 }
 
-impl Statement {
-    fn operands(self) -> Operands
-        ensures { result ≡ operands_of self }
-    {
+// The operands of an instruction at an address.
+impl From<Statement> for Operands {
+    ghost from_gives = { λ statement operands. operands ≡ operands_of statement };
+
+    fn from(statement: Statement) -> Operands {
+        let instruction = statement.instruction;
+        let length = u16::from(instruction.length());
         Operands {
-            instruction: self.instruction,
-            next: self.address.wrapping_add(self.instruction.length() as u16),
+            instruction,
+            next: statement.address.wrapping_add(length),
         }
     }
 }
@@ -75,9 +72,10 @@ impl Statement {
 impl fmt::Display for Statement {
     ghost output = { λ x. Some (statement_text x) };
 
+    #[tactic(auto, unfolding(crate::specs::Texts::statement_text))]
     fn fmt<W: fmt::Write>(&self, f: &mut fmt::Formatter<W>) -> fmt::Result {
         let mnemonic = self.instruction.operation.mnemonic();
-        let operands = self.operands();
+        let operands = Operands::from(*self);
         if operands.is_empty() {
             write!(f, "{mnemonic}")
         } else {

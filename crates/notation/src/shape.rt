@@ -15,11 +15,11 @@ pub enum Shape {
     TwoRegisters(Register, Register),
 }
 
-impl Shape {
-    // The shape of an operation's operands.
-    pub fn of(operation: Operation) -> Shape
-        ensures { result ≡ shape_of operation }
-    {
+// The shape of an operation's operands.
+impl From<Operation> for Shape {
+    ghost from_gives = { λ operation shape. shape ≡ shape_of operation };
+
+    fn from(operation: Operation) -> Shape {
         match operation {
             Operation::Sub
             | Operation::Cp

@@ -1,6 +1,5 @@
-use Rattle.std.proofs.Common.{rules}
 use Rattle.listing.proofs.Joining.{joins}
 use Rattle.listing.proofs.items.Items.new.Goals as goal
 
-pub returns : goal.returns
-returns c = record { made = search rules; joins = joins _ }
+pub returns-clause-joins : goal.returns-clause-joins
+returns-clause-joins c = joins _

@@ -1,2 +1,0 @@
-mod Branch
-mod Empty
