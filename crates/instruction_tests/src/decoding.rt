@@ -11,32 +11,18 @@ fn is(
     cycles: u8,
     expected: Instruction,
 ) -> Result<(), Fail> {
-    match decode(bytes) {
-        Ok(decoded) => {
-            assert_eq!(rt; decoded.length, length);
-            assert_eq!(rt; decoded.instruction.cycles(), cycles);
-            assert_eq!(rt; decoded.instruction, expected);
-            Ok(())
-        }
-        Err(_) => {
-            assert!(rt; false);
-            Ok(())
-        },
-    }
+    let decoded = decode(bytes)?;
+    assert_eq!(rt; decoded.length, length);
+    assert_eq!(rt; decoded.instruction.cycles(), cycles);
+    assert_eq!(rt; decoded.instruction, expected);
+    Ok(())
 }
 
 fn refused(rt: &(impl Abort + AllocGlobal), bytes: &[u8], line: &str) -> Result<(), Fail> {
-    match decode(bytes) {
-        Ok(_) => {
-            assert!(rt; false);
-            Ok(())
-        },
-        Err(fault) => {
-            let said = Line::from(&fault).to_string(rt.alloc())?;
-            assert_eq!(rt; said.as_str(), line);
-            Ok(())
-        }
-    }
+    let fault = decode(bytes).expect_err(rt, "an instruction");
+    let said = Line::from(&fault).to_string(rt.alloc())?;
+    assert_eq!(rt; said.as_str(), line);
+    Ok(())
 }
 
 #[test]

@@ -17,24 +17,30 @@ fn value(operation: Operation, index: Index, operand: Operand) -> Instruction {
 fn only_the_front_changes(rt: HostRuntime) {
     let mut out = [0xEE; 6];
     let instruction = value(Operation::St, Index::Y, Operand::LongIndexed(0x1234));
-    assert!(rt; encode(&instruction, &mut out) == Ok(4));
-    assert!(rt; out == [0x90, 0xD7, 0x12, 0x34, 0xEE, 0xEE]);
+    assert_eq!(rt; encode(&instruction, &mut out), Ok(4));
+    assert_eq!(rt; out, [0x90, 0xD7, 0x12, 0x34, 0xEE, 0xEE]);
 }
 
 #[test]
 fn negative_offset(rt: HostRuntime) {
     let mut out = [0; 2];
     let instruction = value(Operation::Jra, Index::X, Operand::Relative(-2));
-    assert!(rt; encode(&instruction, &mut out) == Ok(2));
-    assert!(rt; out == [0x20, 0xFE]);
+    assert_eq!(rt; encode(&instruction, &mut out), Ok(2));
+    assert_eq!(rt; out, [0x20, 0xFE]);
 }
 
 fn no_instruction(rt: &impl Abort, instruction: Instruction) {
     let mut out = [0xEE; 4];
-    assert!(rt; encode(&instruction, &mut out) == Err(EncodeRefusal::NoInstruction));
-    assert!(rt; out == [0xEE, 0xEE, 0xEE, 0xEE]);
+    assert_eq!(rt;
+        encode(&instruction, &mut out),
+        Err(EncodeRefusal::NoInstruction)
+    );
+    assert_eq!(rt; out, [0xEE, 0xEE, 0xEE, 0xEE]);
     // also where the buffer is too short
-    assert!(rt; encode(&instruction, &mut out[0..0]) == Err(EncodeRefusal::NoInstruction));
+    assert_eq!(rt;
+        encode(&instruction, &mut out[0..0]),
+        Err(EncodeRefusal::NoInstruction)
+    );
 }
 
 #[test]
@@ -55,10 +61,13 @@ fn no_instructions(rt: HostRuntime) {
 fn short_buffers(rt: HostRuntime) {
     let instruction = value(Operation::Jp, Index::X, Operand::Long(0xC000));
     let mut out = [0xEE; 3];
-    assert!(rt; encode(&instruction, &mut out[0..2]) == Err(EncodeRefusal::ShortBuffer));
-    assert!(rt; out == [0xEE, 0xEE, 0xEE]);
-    assert!(rt; encode(&instruction, &mut out) == Ok(3));
-    assert!(rt; out == [0xCC, 0xC0, 0x00]);
+    assert_eq!(rt;
+        encode(&instruction, &mut out[0..2]),
+        Err(EncodeRefusal::ShortBuffer)
+    );
+    assert_eq!(rt; out, [0xEE, 0xEE, 0xEE]);
+    assert_eq!(rt; encode(&instruction, &mut out), Ok(3));
+    assert_eq!(rt; out, [0xCC, 0xC0, 0x00]);
 }
 
 #[test]
@@ -73,8 +82,8 @@ fn lines(rt: HostRuntime) -> Result<(), Fail> {
 #[test]
 fn again(rt: HostRuntime) {
     let mut out = [0; 4];
-    assert!(rt; reencode(&[0x92, 0x0F, 0x12, 0xFE, 0x9D], &mut out) == Ok(4));
-    assert!(rt; out == [0x92, 0x0F, 0x12, 0xFE]);
-    assert!(rt; reencode(&[0x9D, 0x12], &mut out) == Ok(1));
-    assert!(rt; out == [0x9D, 0x0F, 0x12, 0xFE]);
+    assert_eq!(rt; reencode(&[0x92, 0x0F, 0x12, 0xFE, 0x9D], &mut out), Ok(4));
+    assert_eq!(rt; out, [0x92, 0x0F, 0x12, 0xFE]);
+    assert_eq!(rt; reencode(&[0x9D, 0x12], &mut out), Ok(1));
+    assert_eq!(rt; out, [0x9D, 0x0F, 0x12, 0xFE]);
 }

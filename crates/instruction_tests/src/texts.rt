@@ -10,22 +10,14 @@ fn written(
     bytes: &[u8],
     text: &str,
 ) -> Result<(), Fail> {
-    match decode(bytes) {
-        Ok(decoded) => {
-            let instruction = decoded.instruction;
-            let said = Statement {
-                instruction,
-                address,
-            }
-            .to_string(rt.alloc())?;
-            assert_eq!(rt; said.as_str(), text);
-            Ok(())
-        }
-        Err(_) => {
-            assert!(rt; false);
-            Ok(())
-        },
+    let instruction = decode(bytes)?.instruction;
+    let said = Statement {
+        instruction,
+        address,
     }
+    .to_string(rt.alloc())?;
+    assert_eq!(rt; said.as_str(), text);
+    Ok(())
 }
 
 #[test]

@@ -1,8 +1,7 @@
 // All codes, without a prebyte and behind each of the three.
-use isa::{DecodeFault, decode};
-use numerals::Hex2;
+use isa::{DecodeFault, Prebyte, decode};
 
-#[derive(Clone, Copy)]
+#[derive(Clone, Copy, Default)]
 struct Codes {
     instructions: u32,
     void: u32,
@@ -10,14 +9,9 @@ struct Codes {
 }
 
 impl Codes {
-    const NONE: Codes = Codes {
-        instructions: 0,
-        void: 0,
-        other: 0,
-    };
-
     // Counts a code: an instruction; void, and told so with this prebyte and this opcode; or something else.
-    fn count(&mut self, prebyte: Option<u8>, opcode: u8) {
+    fn count(&mut self, prebyte: Option<Prebyte>, opcode: u8) {
+        let prebyte = prebyte.map(u8::from);
         let answer = match prebyte {
             Some(p) => decode(&[p, opcode, 0, 0]),
             None => decode(&[opcode, 0, 0]),
@@ -30,8 +24,8 @@ impl Codes {
         }
     }
 
-    fn all(prebyte: Option<u8>) -> Codes {
-        let mut codes = Codes::NONE;
+    fn all(prebyte: Option<Prebyte>) -> Codes {
+        let mut codes = Codes::default();
         for opcode in 0..=255 {
             codes.count(prebyte, opcode);
         }
@@ -46,11 +40,11 @@ pub(crate) fn print_codes(rt: &HostRuntime) -> anyhow::Result<()> {
         plain.instructions, plain.void, plain.other,
     )?;
     let mut total = plain.instructions;
-    for prebyte in [0x90, 0x91, 0x92] {
+    for prebyte in [Prebyte::Y, Prebyte::PointerY, Prebyte::Pointer] {
         let codes = Codes::all(Some(prebyte));
         println!(rt;
-            "behind {}: {} instructions, {} void",
-            Hex2(prebyte),
+            "behind {:02X}: {} instructions, {} void",
+            u8::from(prebyte),
             codes.instructions,
             codes.void
         )?;

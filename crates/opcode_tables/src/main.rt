@@ -16,18 +16,10 @@ use tally::Tally;
 fn run(rt: &HostRuntime) -> anyhow::Result<()> {
     let mut input = Vec::new(rt.alloc());
     rt.stdin().read_to_end(&mut input)?;
-    let mut tally = Tally::new();
-    let mut line = Vec::new(rt.alloc());
-    for byte in &input {
-        if *byte == b'\n' {
-            tally.count(rt, &line, is_right(rt.alloc(), &line)?)?;
-            line.clear();
-        } else {
-            line.push(*byte)?;
-        }
-    }
-    if !line.is_empty() {
-        tally.count(rt, &line, is_right(rt.alloc(), &line)?)?;
+    let mut tally = Tally::default();
+    for line in input.split_inclusive(|byte| *byte == b'\n') {
+        let row = line.strip_suffix(b"\n").unwrap_or(line);
+        tally.count(rt, row, is_right(rt.alloc(), row)?)?;
     }
     tally.end(rt)?;
     print_codes(rt)?;

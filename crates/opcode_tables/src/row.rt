@@ -3,8 +3,7 @@ ghost use Rattle.std.specs.Prelude.{◌<◌};
 
 use encode::encode;
 use isa::{Instruction, decode};
-use notation::Operands;
-use numerals::Hex2;
+use notation::{Operands, Statement};
 use std::alloc::Global;
 use std::fmt;
 
@@ -20,14 +19,16 @@ struct Row<'a> {
 
 impl<'a> fmt::Display for Row<'a> {
     fn fmt<W: fmt::Write>(&self, f: &mut fmt::Formatter<W>) -> fmt::Result {
+        let Row { bytes, instruction } = *self;
         let mut separator = "";
-        for byte in self.bytes {
-            write!(f, "{separator}{}", Hex2(*byte))?;
+        for byte in bytes {
+            write!(f, "{separator}{byte:02X}")?;
             separator = " ";
         }
-        let instruction = self.instruction;
-        let next = ADDRESS + instruction.length() as u16;
-        let operands = Operands { instruction, next };
+        let operands = Operands::from(Statement {
+            instruction,
+            address: ADDRESS,
+        });
         write!(
             f,
             "|{}|{operands}|{}|{}",
@@ -38,6 +39,7 @@ impl<'a> fmt::Display for Row<'a> {
     }
 }
 
+// A hexadecimal digit, and 0 for any other character: the library's `to_digit` would read small letters too.
 fn digit(character: u8) -> u8
     ensures { result < 16 }
 {
@@ -51,47 +53,37 @@ fn digit(character: u8) -> u8
 // The bytes in front of a row's first bar, with zeros up to four.
 fn bytes_of(row: &[u8]) -> [u8; 4] {
     let mut bytes = [0; 4];
-    let mut count = 0;
-    for pair in row.chunks(3) {
-        if count < 4 && pair.len() >= 2 {
-            bytes[count] = digit(pair[0]) * 16 + digit(pair[1]);
-            count += 1;
+    for (byte, code) in bytes.iter_mut().zip(row.chunks(3)) {
+        if let [high, low, ..] = *code {
+            *byte = digit(high) * 16 + digit(low);
         }
-        if pair.len() < 3 || pair[2] != b' ' {
+        if !code.ends_with(b" ") {
             break;
         }
     }
     bytes
 }
 
-// What the library says of bytes.
-fn said(heap: Global, bytes: &[u8; 4]) -> anyhow::Result<Option<String>> {
-    let mut out = [0; 4];
-    let Ok(decoded) = decode(bytes) else {
-        return Ok(None);
-    };
-    let Ok(written) = encode(&decoded.instruction, &mut out) else {
-        return Ok(None);
-    };
-    let row = Row {
-        bytes: &out[0..written],
-        instruction: decoded.instruction,
-    };
-    Ok(Some(format!(in heap; "{row}")?))
+// The instruction that a row's bytes are.
+fn instruction(row: &[u8]) -> Option<Instruction> {
+    Some(decode(&bytes_of(row)).ok()?.instruction)
 }
 
 // Whether the library says the same as the row.
 pub(crate) fn is_right(heap: Global, row: &[u8]) -> anyhow::Result<bool> {
-    match said(heap, &bytes_of(row))? {
-        Some(text) => Ok(text.as_bytes() == row),
-        None => Ok(false),
-    }
+    let Some(instruction) = instruction(row) else {
+        return Ok(false);
+    };
+    let mut out = [0; 4];
+    let Ok(length) = encode(&instruction, &mut out) else {
+        return Ok(false);
+    };
+    let bytes = &out[..length];
+    let said = format!(in heap; "{}", Row { bytes, instruction })?;
+    Ok(said.as_bytes() == row)
 }
 
 // The mnemonic of the instruction that a row's bytes are.
 pub(crate) fn mnemonic(row: &[u8]) -> Option<&'static str> {
-    match decode(&bytes_of(row)) {
-        Ok(decoded) => Some(decoded.instruction.operation.mnemonic()),
-        Err(_) => None,
-    }
+    instruction(row).map(|i| i.operation.mnemonic())
 }

@@ -1,24 +1,16 @@
 // Counts of rows, a line for each mnemonic.
 use crate::row::mnemonic;
 
-#[derive(Drop)]
+#[derive(Clone, Copy, Default)]
 pub(crate) struct Tally {
-    mnemonic: &'static str,
+    // of the rows that are counted now, if they are an instruction
+    mnemonic: Option<&'static str>,
     rows: u32,
     right: u32,
     pub(crate) wrong: u32,
 }
 
 impl Tally {
-    pub(crate) fn new() -> Tally {
-        Tally {
-            mnemonic: "",
-            rows: 0,
-            right: 0,
-            wrong: 0,
-        }
-    }
-
     // Counts a row, under its mnemonic.
     pub(crate) fn count(
         &mut self,
@@ -26,7 +18,7 @@ impl Tally {
         row: &[u8],
         right: bool,
     ) -> anyhow::Result<()> {
-        let mnemonic = mnemonic(row).unwrap_or("");
+        let mnemonic = mnemonic(row);
         if mnemonic != self.mnemonic {
             self.print(rt)?;
             self.mnemonic = mnemonic;
@@ -43,7 +35,7 @@ impl Tally {
 
     fn print(&self, rt: &HostRuntime) -> anyhow::Result<()> {
         if self.rows > 0 {
-            println!(rt; "{} {}", self.mnemonic, self.rows)?;
+            println!(rt; "{} {}", self.mnemonic.unwrap_or(""), self.rows)?;
         }
         Ok(())
     }
