@@ -1,24 +1,24 @@
 -- What is read is written back.
-use Rattle.std.proofs.Common.{◌≡◌, ℕ, zero, suc, ◌+◌, ◌<◌, ◌≤◌, Bool, true, false, cond, ltb, leb, List, [], ◌∷◌, ◌++◌, length, get_or, take, Some, None, Ok, Err, Option, sym, refl, ap, ◌∙◌, subst, arith}
+use Rattle.std.proofs.Common.{◌≡◌, ℕ, zero, suc, ◌+◌, ◌<◌, ◌≤◌, Bool, true, false, cond, ltb, leb, List, [], ◌∷◌, ◌++◌, length, get_or, take, Some, None, Ok, Err, Option, refl, ap, ◌∙◌, subst, arith}
 use Rattle.std.proofs.lemmas.Int.{of_z-to_z}
-use Rattle.std.proofs.lemmas.Bool.{lt-ltb, ltb-false}
+use Rattle.std.proofs.lemmas.Bool.{ltb-false}
 use Rattle.std.proofs.lemmas.Bool.Decides.{nat_tests}
 use Rattle.instruction.specs.declared.mode.Mode.{Mode}
 use Rattle.instruction.specs.declared.mode.Index.{Index}
 use Rattle.instruction.specs.declared.prebyte.Prebyte.{Prebyte}
 use Rattle.instruction.specs.declared.instruction.Instruction.{Instruction}
 use Rattle.instruction.specs.Modes.{mode_of, direct_of, is_indirect, operand_bytes}
-use Rattle.instruction.specs.Prebytes.{byte_of, prebyte_at, prebyte_for, prebyte_length, index_behind, indirect_behind}
+use Rattle.instruction.specs.Prebytes.{byte_of, prebyte_at, prebyte_for, prebyte_length, index_behind, pointer_behind}
 use Rattle.isa.specs.declared.opcode.Form.{Form}
 use Rattle.isa.specs.declared.decoder.Decoded.{Decoded}
 use Rattle.isa.specs.declared.fault.DecodeFault.TheVariants.{Outside}
 use Rattle.isa.specs.Forms.{allowed, form_behind}
 use Rattle.isa.specs.Decode.{operand_of, found, decode_of}
+use Rattle.instruction.proofs.Prebytes.{prebyte_again}
 use Rattle.isa.proofs.Forms.{mode_kept, few, Parts, parts}
-use Rattle.encode.specs.Places.{opcode_in}
 use Rattle.encode.specs.Encode.{bit_of, tail_of, prefix, opcode_of, written, encode_of}
 use Rattle.encode.specs.Laws.{WritesBack}
-use Rattle.encode.proofs.Opcodes.{again, opcode_again}
+use Rattle.encode.proofs.Opcodes.{opcode_again}
 
 -- the bit of an operand that was read, and its bytes
 bit_kept : (m : Mode) (n a b : ℕ) → bit_of (operand_of m n a b) ≡ bit_of (operand_of (direct_of m) n 0 0)
@@ -55,28 +55,21 @@ whole (Some q) (x ∷ bs) c e h l =
     let l1 : 1 + c ≤ length bs = omega arith in
     ap (λ (v : List ℕ). byte_of q ∷ v) (front bs c h l1) ∙ (ap (λ v. v ∷ take (1 + c) bs) (byte_again q x e) ∙ ap (λ (v : ℕ). take v (x ∷ bs)) s)
 
--- a prebyte stands for an index register and a pointer, and they for it
-prebyte_again : (p : Option Prebyte) → prebyte_for (index_behind p) (indirect_behind p) ≡ p
-prebyte_again p = grind arith
-
 read : Form → ℕ → ℕ → ℕ → Instruction
 read f n a b = record { operation = f.operation; index = f.index; operand = operand_of f.mode n a b }
 
 opcode_found : (i : Index) (d : Bool) (f : Form) (n a b : ℕ) → n < 256 → Parts i d n f → opcode_of (read f n a b) ≡ Some n
 unfolding read
-opcode_found i d f n a b h p =
-    let t : ltb (bit_of (operand_of (direct_of f.mode) n 0 0)) 8 ≡ true = lt-ltb _ 8 (bit_small (direct_of f.mode) n 0 0) in
-    let o : opcode_in f.operation (direct_of f.mode) (bit_of (operand_of (direct_of f.mode) n 0 0)) ≡ Some n = sym (ap (again n) p.plain) ∙ opcode_again n h in
-    simp (t, mode_kept f.mode n a b, bit_kept f.mode n a b, o)
+opcode_found i d f n a b h p = grind (arith, nat_tests, bit_small, mode_kept, bit_kept, opcode_again n h, p.plain)
 
 written_is : (p : Option Prebyte) (f : Form) (n a b : ℕ) → n < 256 → a < 256 → b < 256 → form_behind p n ≡ Some f
     → encode_of (read f n a b) ≡ Some (prefix p ++ (n ∷ take (operand_bytes f.mode) (a ∷ b ∷ [])))
 unfolding read encode_of
 written_is p f n a b h ha hb q =
-    let r = parts (index_behind p) (indirect_behind p) n f h q in
+    let r = parts (index_behind p) (pointer_behind p) n f h q in
     let t : allowed f.index f.operation (direct_of (mode_of (operand_of f.mode n a b))) ≡ true = simp (mode_kept f.mode n a b, r.index, r.allows) in
     let x : prebyte_for f.index (is_indirect (mode_of (operand_of f.mode n a b))) ≡ p = simp (mode_kept f.mode n a b, r.index, r.turn, prebyte_again p) in
-    ap (written (read f n a b)) (opcode_found (index_behind p) (indirect_behind p) f n a b h r) ∙ simp (t, x, tail_kept f.mode n a b ha hb)
+    ap (written (read f n a b)) (opcode_found (index_behind p) (pointer_behind p) f n a b h r) ∙ simp (t, x, tail_kept f.mode n a b ha hb)
 
 pub writes_back : (bs : List ℕ) → ((k : ℕ) → get_or bs k 0 < 256) → WritesBack bs
 unfolding decode_of read

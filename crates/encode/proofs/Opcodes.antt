@@ -1,5 +1,5 @@
 -- The op-code map and the places of the operations undo each other.
-use Rattle.std.proofs.Common.{◌≡◌, ℕ, ◌<◌, cond, eqb, map, Some, None, Option, refl, ap}
+use Rattle.std.proofs.Common.{◌≡◌, ℕ, ◌<◌, cond, ltb, map, Some, None, Option, refl, ap}
 use Rattle.std.specs.List.{range_with_len}
 use Rattle.operation.specs.declared.Operation.{Operation}
 use Rattle.operation.proofs.Order.{all, same_everywhere}
@@ -20,9 +20,9 @@ again n (Some (o, m)) = opcode_in o m (bit_of (operand_of m n 0 0))
 pub opcode_again : (n : ℕ) → n < 256 → again n (plain_at n) ≡ Some n
 opcode_again n h = same_below (λ n. again n (plain_at n)) Some 256 refl n h
 
--- the bit that an opcode holds in a mode that has one, and b in any other
+-- the bit that an opcode holds, and b in the modes that have no bit, which stand before the others
 abbrev pub bit_or : Mode → ℕ → ℕ → ℕ
-bit_or m n b = cond (eqb (mode_number m) (mode_number Bit)) (bit_in n) (cond (eqb (mode_number m) (mode_number BitRelative)) (bit_in n) b)
+bit_or m n b = cond (ltb (mode_number m) (mode_number Bit)) b (bit_in n)
 
 -- one operation in one mode, through the places and back
 abbrev pub Backed : Operation → Mode → ℕ → Option ℕ → Type 0

@@ -1,15 +1,13 @@
 -- What is written is read back.
-use Rattle.std.proofs.Common.{◌≡◌, ℕ, ◌+◌, ◌<◌, ◌≤◌, Bool, true, false, cond, ltb, List, ◌∷◌, ◌++◌, length, get_or, Some, None, Ok, Option, sym, refl, ap, ◌∙◌, subst, append_assoc, arith, length-append}
+use Rattle.std.proofs.Common.{◌≡◌, ℕ, ◌+◌, ◌<◌, ◌≤◌, Bool, true, false, cond, List, ◌∷◌, ◌++◌, length, get_or, Some, None, Ok, Option, sym, refl, ap, ◌∙◌, subst, append_assoc, arith, length-append}
 use Rattle.std.proofs.lemmas.Int.{to_z-of_z}
 use Rattle.std.proofs.lemmas.Bool.Decides.{nat_tests}
-use Rattle.std.proofs.lemmas.Bool.{le-ltb}
 use Rattle.instruction.specs.declared.mode.Mode.{Mode}
-use Rattle.instruction.specs.declared.mode.Index.{Index}
 use Rattle.instruction.specs.declared.prebyte.Prebyte.{Prebyte}
 use Rattle.instruction.specs.declared.instruction.Operand.{Operand}
 use Rattle.instruction.specs.declared.instruction.Instruction.{Instruction}
 use Rattle.instruction.specs.Modes.{mode_of, direct_of, is_indirect, operand_bytes}
-use Rattle.instruction.specs.Prebytes.{prebyte_at, prebyte_for, prebyte_length, index_behind, indirect_behind}
+use Rattle.instruction.specs.Prebytes.{prebyte_at, prebyte_length}
 use Rattle.instruction.specs.Rows.{prebyte_of}
 use Rattle.isa.specs.declared.opcode.Form.{Form}
 use Rattle.isa.specs.Map.{Plain, plain_at, at}
@@ -32,13 +30,6 @@ tail_length x = grind arith
 -- a mode, turned as it is
 turned_again : (m : Mode) → turned (is_indirect m) (direct_of m) ≡ Some m
 turned_again m = grind arith
-
--- a prebyte stands for an index register and a pointer
-index_again : (i : Index) (b : Bool) → index_behind (prebyte_for i b) ≡ i
-index_again i b = grind arith
-
-pointer_again : (i : Index) (b : Bool) → indirect_behind (prebyte_for i b) ≡ b
-pointer_again i b = grind arith
 
 -- the first byte is the prebyte, or an opcode that stands for something, and so is no prebyte
 started : (p : Option Prebyte) (n : ℕ) (ts : List ℕ) (q : Plain) → plain_at n ≡ Some q → p ≡ prebyte_at (get_or (prefix p ++ (n ∷ ts)) 0 0)
@@ -74,10 +65,7 @@ filling :
     → get_or bs (k + 1) 0 ≡ get_or (tail_of x ++ rest) 0 0 → get_or bs (k + 2) 0 ≡ get_or (tail_of x ++ rest) 1 0
     → k + 1 + operand_bytes f.mode ≤ length bs
     → completed bs k n f ≡ Ok (record { instruction = record { operation = f.operation; index = f.index; operand = x }; length = k + 1 + operand_bytes f.mode })
-filling f x bs rest k n m s b g1 g2 h =
-    let t : ltb (length bs) (k + 1 + operand_bytes f.mode) ≡ false = le-ltb (length bs) (k + 1 + operand_bytes f.mode) h in
-    let y : operand_of f.mode n (get_or bs (k + 1) 0) (get_or bs (k + 2) 0) ≡ x = simp (m, g1, g2, refill x n rest s b) in
-    simp (t, y)
+filling f x bs rest k n m s b g1 g2 h = grind (arith, nat_tests, refill x n rest s b)
 
 reads :
     (i : Instruction) (n : ℕ) (rest : List ℕ) → Signed i.operand
@@ -117,7 +105,3 @@ reads_back i s bs rest e = go (opcode_of i) refl e
     go : (w : Option ℕ) → opcode_of i ≡ w → written i w ≡ Some bs → decode_of (bs ++ rest) ≡ Ok (record { instruction = i; length = length bs })
     go None q e = cc
     go (Some n) q e = last n (allowed i.index i.operation (direct_of (mode_of i.operand))) q refl e
-
--- a value without bytes has none to read back
-pub none_back : (i : Instruction) → None ≡ encode_of i → ReadsBack i
-none_back i e bs rest w = cc

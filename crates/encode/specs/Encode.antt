@@ -1,7 +1,6 @@
 -- The bytes of an instruction.
 use Rattle.std.specs.Prelude.{ℕ, ◌/◌, ◌%◌, cond, List, [], ◌∷◌, ◌++◌, Some, None, Option, nat_lt}
-use Rattle.std.proofs.Common.{of_z}
-use Rattle.std.specs.Int.{w8}
+use Rattle.std.specs.Int.{cast_unsigned, w8}
 use Rattle.instruction.specs.declared.prebyte.Prebyte.{Prebyte}
 use Rattle.instruction.specs.declared.instruction.Operand.{Operand}
 use Rattle.instruction.specs.declared.instruction.Operand.TheVariants as O
@@ -45,16 +44,16 @@ tail_of (O.Long w) = w / 256 ∷ w % 256 ∷ []
 tail_of O.Indexed = []
 tail_of (O.ShortIndexed a) = a ∷ []
 tail_of (O.LongIndexed w) = w / 256 ∷ w % 256 ∷ []
-tail_of (O.Relative z) = of_z w8 z ∷ []
+tail_of (O.Relative z) = cast_unsigned w8 z ∷ []
 tail_of (O.Bit k a) = a ∷ []
-tail_of (O.BitRelative k a z) = a ∷ of_z w8 z ∷ []
+tail_of (O.BitRelative k a z) = a ∷ cast_unsigned w8 z ∷ []
 tail_of (O.ShortPointer a) = a ∷ []
 tail_of (O.LongPointer a) = a ∷ []
 tail_of (O.ShortPointerIndexed a) = a ∷ []
 tail_of (O.LongPointerIndexed a) = a ∷ []
 tail_of (O.RelativePointer a) = a ∷ []
 tail_of (O.BitPointer k a) = a ∷ []
-tail_of (O.BitPointerRelative k a z) = a ∷ of_z w8 z ∷ []
+tail_of (O.BitPointerRelative k a z) = a ∷ cast_unsigned w8 z ∷ []
 
 -- the prebyte as a list of one byte, or of none
 abbrev pub prefix : Option Prebyte → List ℕ

@@ -11,6 +11,7 @@ use crate::refusals::EncodeRefusal;
 use arrayvec::ArrayVec;
 use isa::{DecodeFault, Instruction, Operand, Prebyte, allows, decode};
 
+// Puts two bytes behind the others.
 fn push_both(bytes: [u8; 2], code: &mut ArrayVec<u8, 4>)
     requires { array_vec_len code.old ≤ 2 }
     ensures { code.new.items ≡ code.old.items ++ bytes }
@@ -20,7 +21,8 @@ fn push_both(bytes: [u8; 2], code: &mut ArrayVec<u8, 4>)
     code.push(second);
 }
 
-// Puts the bytes that follow the opcode behind it.
+// Puts the bytes that follow the opcode behind it. That a relative offset is a signed byte is known where it is taken out
+// of the operand, and the second clause says it.
 fn push_operand(operand: Operand, code: &mut ArrayVec<u8, 4>)
     requires { array_vec_len code.old ≤ 2 }
     ensures value { code.new.items ≡ code.old.items ++ tail_of operand }
@@ -67,7 +69,7 @@ fn join(prebyte: Option<Prebyte>, opcode: u8, operand: Operand) -> ArrayVec<u8, 
 }
 
 // The bytes of an instruction, if it is one of the ST7.
-#[tactic(auto, using(crate::proofs::Reading::reads_back, crate::proofs::Reading::none_back), unfolding(crate::specs::Encode::encode_of))]
+#[tactic(auto, using(crate::proofs::Reading::reads_back), unfolding(crate::specs::Encode::encode_of))]
 fn code_for(instruction: Instruction) -> Option<ArrayVec<u8, 4>>
     ensures value { option_map (λ code. code.items) result ≡ encode_of instruction }
     ensures reads_back { ReadsBack instruction }
@@ -104,6 +106,7 @@ pub fn reencode(bytes: &[u8], out: &mut [u8; 4]) -> Result<usize, DecodeFault>
     ensures writes_back { WritesBack bytes.now }
 {
     let decoded = decode(bytes)?;
+    // never refused: what was decoded is an instruction, and has four bytes at most
     let _ = encode(&decoded.instruction, out);
     Ok(decoded.length)
 }

@@ -24,6 +24,7 @@ pub enum Place {
     BitJump(u8),
 }
 
+// The place of each operation, a line for each in their order. A table, as the op-code map is one.
 static PLACES: [Place; 74] = [
     Place::Accesses(0x00), // Sub
     Place::Accesses(0x01), // Cp

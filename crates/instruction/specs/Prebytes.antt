@@ -1,11 +1,9 @@
 -- Prebytes: $90 puts Y for X, $92 puts a pointer in the place of the operand, $91 does both.
-use Rattle.std.specs.Prelude.{◌≡◌, ℕ, Bool, true, false, cond, List, ◌++◌, codes, Some, None, Option, Result, MatchResult, ◌==◌}
-use Rattle.numerals.specs.Numerals.{hex2}
+use Rattle.std.specs.Prelude.{ℕ, Bool, true, false, if◌then◌else◌, Some, None, Option, ◌==◌}
 use Rattle.instruction.specs.declared.mode.Index.{Index}
 use Rattle.instruction.specs.declared.mode.Index.TheVariants.{X, Y}
 use Rattle.instruction.specs.declared.prebyte.Prebyte.{Prebyte}
 use Rattle.instruction.specs.declared.prebyte.Prebyte.TheVariants as P
-use Rattle.instruction.specs.declared.prebyte.NoPrebyte.{NoPrebyte}
 
 -- the byte of a prebyte
 abbrev pub byte_of : Prebyte → ℕ
@@ -15,11 +13,7 @@ byte_of P.Pointer = 0x92
 
 -- the prebyte that a byte is, if it is one
 abbrev pub prebyte_at : ℕ → Option Prebyte
-prebyte_at b = cond (b == 0x90) (Some P.Y) (cond (b == 0x91) (Some P.PointerY) (cond (b == 0x92) (Some P.Pointer) None))
-
--- a byte is read as the prebyte that it is, or handed back where it is none
-abbrev pub PrebyteRead : ℕ → Result Prebyte NoPrebyte → Type 0
-PrebyteRead b r = MatchResult r (λ p. Some p ≡ prebyte_at b) (λ e. (e.0 ≡ b) × (None ≡ prebyte_at b))
+prebyte_at b = if b == 0x90 then Some P.Y else (if b == 0x91 then Some P.PointerY else (if b == 0x92 then Some P.Pointer else None))
 
 -- the index register behind a prebyte
 abbrev pub index_of : Prebyte → Index
@@ -28,10 +22,10 @@ index_of P.PointerY = Y
 index_of P.Pointer = X
 
 -- whether a pointer stands in the place of the operand behind a prebyte
-abbrev pub indirect_of : Prebyte → Bool
-indirect_of P.Y = false
-indirect_of P.PointerY = true
-indirect_of P.Pointer = true
+abbrev pub has_pointer : Prebyte → Bool
+has_pointer P.Y = false
+has_pointer P.PointerY = true
+has_pointer P.Pointer = true
 
 -- the cycles that a prebyte adds
 abbrev pub cycles_added : Prebyte → ℕ
@@ -52,9 +46,9 @@ index_behind None = X
 index_behind (Some p) = index_of p
 
 -- whether a pointer stands in the place of the operand: only behind a prebyte
-abbrev pub indirect_behind : Option Prebyte → Bool
-indirect_behind None = false
-indirect_behind (Some p) = indirect_of p
+abbrev pub pointer_behind : Option Prebyte → Bool
+pointer_behind None = false
+pointer_behind (Some p) = has_pointer p
 
 -- the cycles that a prebyte adds, if there is one: 1 for $90, and 2 for $91 and $92, which stand for a pointer
 abbrev pub prebyte_cycles : Option Prebyte → ℕ
@@ -65,7 +59,3 @@ prebyte_cycles (Some p) = cycles_added p
 abbrev pub prebyte_length : Option Prebyte → ℕ
 prebyte_length None = 0
 prebyte_length (Some p) = 1
-
--- what a person reads of a byte that is no prebyte
-abbrev pub refusal_text : NoPrebyte → List ℕ
-refusal_text e = hex2 e.0 ++ codes " is no prebyte"

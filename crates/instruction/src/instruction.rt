@@ -89,7 +89,7 @@ impl Instruction {
     }
 
     // The cycles that the instruction takes; 0 where its operation has no such mode.
-    #[tactic(auto, unfolding(crate::specs::Rows::cycles_of))]
+    #[tactic(auto, using(crate::proofs::Few::few_cycles), unfolding(crate::specs::Rows::cycles_of))]
     pub fn cycles(self) -> u8
         ensures { result ≡ cycles_of self }
     {
@@ -98,7 +98,7 @@ impl Instruction {
     }
 
     // The bytes that the instruction has; 0 where its operation has no such mode.
-    #[tactic(auto, unfolding(crate::specs::Rows::length_of))]
+    #[tactic(auto, using(crate::proofs::Few::few_bytes), unfolding(crate::specs::Rows::length_of))]
     pub fn length(self) -> u8
         ensures { result ≡ length_of self }
     {

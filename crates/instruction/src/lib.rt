@@ -9,4 +9,4 @@ mod rows;
 pub use instruction::{Instruction, Operand};
 pub use mode::{Index, Mode};
 pub use operation::Operation;
-pub use prebyte::{NoPrebyte, Prebyte};
+pub use prebyte::Prebyte;

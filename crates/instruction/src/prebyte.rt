@@ -1,11 +1,8 @@
 // Prebytes: bytes that stand before an opcode and change what it stands for.
-ghost use Rattle.std.specs.Prelude.{◌≡◌, Some};
-ghost use Rattle.instruction.specs.Prebytes.{byte_of, index_of, indirect_of, cycles_added, PrebyteRead, prebyte_for, refusal_text};
+ghost use Rattle.std.specs.Prelude.{◌≡◌};
+ghost use Rattle.instruction.specs.Prebytes.{byte_of, prebyte_at, index_of, has_pointer, cycles_added, prebyte_for};
 
 use crate::mode::Index;
-use numerals::Hex2;
-use std::error::Error;
-use std::fmt;
 
 // Without a prebyte the index register is X, and the operand itself stands behind the opcode.
 #[derive(Clone, Copy, PartialEq, Eq, Debug)]
@@ -16,25 +13,6 @@ pub enum Prebyte {
     PointerY,
     // $92: a pointer in the place of the operand
     Pointer,
-}
-
-// A byte that is no prebyte.
-#[derive(Clone, Copy, PartialEq, Eq, Debug)]
-pub struct NoPrebyte(pub u8);
-
-impl TryFrom<u8> for Prebyte {
-    type Error = NoPrebyte;
-
-    ghost try_from_gives = { PrebyteRead };
-
-    fn try_from(byte: u8) -> Result<Self, NoPrebyte> {
-        match byte {
-            0x90 => Ok(Prebyte::Y),
-            0x91 => Ok(Prebyte::PointerY),
-            0x92 => Ok(Prebyte::Pointer),
-            _ => Err(NoPrebyte(byte)),
-        }
-    }
 }
 
 impl From<Prebyte> for u8 {
@@ -50,6 +28,18 @@ impl From<Prebyte> for u8 {
 }
 
 impl Prebyte {
+    // The prebyte that a byte is. Any other byte is an opcode, and no refusal: so an `Option`, and no `TryFrom`.
+    pub fn from_byte(byte: u8) -> Option<Prebyte>
+        ensures { result ≡ prebyte_at byte }
+    {
+        match byte {
+            0x90 => Some(Prebyte::Y),
+            0x91 => Some(Prebyte::PointerY),
+            0x92 => Some(Prebyte::Pointer),
+            _ => None,
+        }
+    }
+
     // The prebyte of an instruction with this index register, and with a pointer in the place of its operand or without.
     pub fn of(index: Index, indirect: bool) -> Option<Prebyte>
         ensures { result ≡ prebyte_for index indirect }
@@ -74,7 +64,7 @@ impl Prebyte {
 
     // Whether a pointer stands in the place of the operand behind it.
     pub fn is_indirect(self) -> bool
-        ensures { result ≡ indirect_of self }
+        ensures { result ≡ has_pointer self }
     {
         match self {
             Prebyte::Y => false,
@@ -92,13 +82,3 @@ impl Prebyte {
         }
     }
 }
-
-impl fmt::Display for NoPrebyte {
-    ghost output = { λ e. Some (refusal_text e) };
-
-    fn fmt<W: fmt::Write>(&self, f: &mut fmt::Formatter<W>) -> fmt::Result {
-        write!(f, "{} is no prebyte", Hex2(self.0))
-    }
-}
-
-impl Error for NoPrebyte {}

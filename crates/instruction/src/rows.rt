@@ -1,5 +1,7 @@
 // Lengths and cycles as constant rows: a row for each operation, a column for each mode, in the order of the two enums. A
-// number is that of the opcode without a prebyte, and 0 stands where the operation has no such mode.
+// number is that of the opcode without a prebyte, and 0 stands where the operation has no such mode: rows of plain numbers
+// are read beside a data sheet's, and whoever has decoded an instruction asks for no number that is not there. Two tables,
+// and no row of both: an indirect mode has a length of its own, and takes the cycles of its direct mode.
 ghost use Rattle.std.specs.Prelude.{◌≡◌};
 ghost use Rattle.instruction.specs.Order.{mode_number};
 ghost use Rattle.instruction.specs.Rows.{row_length, row_cycles};
@@ -217,6 +219,7 @@ impl Mode {
     fn column(self) -> usize
         ensures { result ≡ mode_number self }
     {
+        // a mode is a number by `as` alone
         self as usize
     }
 

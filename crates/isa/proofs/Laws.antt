@@ -8,7 +8,7 @@ use Rattle.instruction.specs.declared.mode.Index.TheVariants.{X, Y}
 use Rattle.instruction.specs.declared.instruction.Instruction.{Instruction}
 use Rattle.instruction.specs.Modes.{direct_of, is_indirect, operand_bytes}
 use Rattle.instruction.specs.declared.prebyte.Prebyte.{Prebyte}
-use Rattle.instruction.specs.Prebytes.{prebyte_at, prebyte_for, index_behind, indirect_behind, prebyte_length, prebyte_cycles}
+use Rattle.instruction.specs.Prebytes.{prebyte_at, prebyte_for, index_behind, pointer_behind, prebyte_length, prebyte_cycles}
 use Rattle.instruction.specs.Rows.{row_length, row_cycles, with_prebyte, length_of, cycles_of}
 use Rattle.isa.specs.declared.opcode.Form.{Form}
 use Rattle.isa.specs.declared.decoder.Decoded.{Decoded}
@@ -17,6 +17,7 @@ use Rattle.isa.specs.declared.fault.DecodeFault.TheVariants.{Outside}
 use Rattle.isa.specs.Forms.{form_at, form_behind}
 use Rattle.isa.specs.Decode.{operand_of, found, decode_of}
 use Rattle.isa.specs.Laws.{Sized, Timed}
+use Rattle.instruction.proofs.Prebytes.{prebyte_again}
 use Rattle.isa.proofs.Below.{same_below}
 use Rattle.isa.proofs.Forms.{mode_kept, few, parts}
 use Rattle.isa.proofs.Sizes.{form_sized}
@@ -55,10 +56,6 @@ form_timed i b n a c f h e =
     both (leb 2 (form_cycles f)) (leb (form_cycles f) 12) (sym (ap timely e) ∙ each_timely i b n h) in
     (subst (λ v. 2 ≤ v) (sym same) (leb-true 2 (form_cycles f) t.0), subst (λ v. v ≤ 12) (sym same) (leb-true (form_cycles f) 12 t.1))
 
--- what a prebyte makes of an opcode tells the prebyte
-again : (p : Option Prebyte) → prebyte_for (index_behind p) (indirect_behind p) ≡ p
-again p = grind arith
-
 one_more : (n more : ℕ) → with_prebyte (1 + n) more ≡ 1 + n + more
 one_more n more = grind arith
 
@@ -66,12 +63,12 @@ form_length : (p : Option Prebyte) (n a c : ℕ) (f : Form) → n < 256 → form
     → length_of (read f n a c) ≡ 1 + operand_bytes f.mode + prebyte_length p
 unfolding read length_of
 form_length p n a c f h e =
-    let q = parts (index_behind p) (indirect_behind p) n f h e in
+    let q = parts (index_behind p) (pointer_behind p) n f h e in
     ap (λ (m : Mode). with_prebyte (row_length f.operation m) (prebyte_length (prebyte_for f.index (is_indirect m)))) (mode_kept f.mode n a c)
-    ∙ (ap (λ v. with_prebyte v (prebyte_length (prebyte_for f.index (is_indirect f.mode)))) (form_sized (index_behind p) (indirect_behind p) n f h e)
+    ∙ (ap (λ v. with_prebyte v (prebyte_length (prebyte_for f.index (is_indirect f.mode)))) (form_sized (index_behind p) (pointer_behind p) n f h e)
     ∙ (ap (λ v. with_prebyte (1 + operand_bytes f.mode) (prebyte_length (prebyte_for v (is_indirect f.mode)))) q.index
     ∙ (ap (λ v. with_prebyte (1 + operand_bytes f.mode) (prebyte_length (prebyte_for (index_behind p) v))) q.turn
-    ∙ (ap (λ v. with_prebyte (1 + operand_bytes f.mode) (prebyte_length v)) (again p) ∙ one_more (operand_bytes f.mode) (prebyte_length p)))))
+    ∙ (ap (λ v. with_prebyte (1 + operand_bytes f.mode) (prebyte_length v)) (prebyte_again p) ∙ one_more (operand_bytes f.mode) (prebyte_length p)))))
 
 place_small : (p : Option Prebyte) → prebyte_length p ≤ 1
 place_small p = grind arith
@@ -93,7 +90,7 @@ lawful bs hb = go (prebyte_at (get_or bs 0 0)) (prebyte_length (prebyte_at (get_
         let w : k + 1 + operand_bytes f.mode ≤ length bs = ltb-false (length bs) (k + 1 + operand_bytes f.mode) t in
         let s : k + 1 + operand_bytes f.mode ≡ 1 + operand_bytes f.mode + prebyte_length p = omega arith in (
           (s ∙ sym l, omega arith, omega (arith, few f.mode, place_small p), w),
-          form_timed (index_behind p) (indirect_behind p) (get_or bs k 0) (get_or bs (k + 1) 0) (get_or bs (k + 2) 0) f (hb k) q,
+          form_timed (index_behind p) (pointer_behind p) (get_or bs k 0) (get_or bs (k + 1) 0) (get_or bs (k + 2) 0) f (hb k) q,
         )
 
     form_go : (p : Option Prebyte) (k : ℕ) (w : Option Form) → prebyte_length p ≡ k → form_behind p (get_or bs k 0) ≡ w

@@ -5,7 +5,7 @@ use Rattle.instruction.specs.declared.mode.Mode.{Mode}
 use Rattle.instruction.specs.declared.mode.Index.{Index}
 use Rattle.instruction.specs.declared.mode.Index.TheVariants.{X, Y}
 use Rattle.instruction.specs.declared.prebyte.Prebyte.{Prebyte}
-use Rattle.instruction.specs.Prebytes.{index_behind, indirect_behind}
+use Rattle.instruction.specs.Prebytes.{index_behind, pointer_behind}
 use Rattle.instruction.specs.Modes.{indirect_of}
 use Rattle.instruction.specs.Indexes.{is_indexed}
 use Rattle.operation.specs.Indexes.{uses_index}
@@ -42,4 +42,4 @@ form_at i indirect n = form_of i indirect (plain_at n)
 
 -- the same behind a prebyte, or without one
 abbrev pub form_behind : Option Prebyte → ℕ → Option Form
-form_behind p n = form_at (index_behind p) (indirect_behind p) n
+form_behind p n = form_at (index_behind p) (pointer_behind p) n

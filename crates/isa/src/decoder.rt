@@ -87,7 +87,7 @@ pub fn decode(bytes: &[u8]) -> Result<Decoded, DecodeFault>
     ensures sized { Sized bytes.now result }
     ensures timed { Timed result }
 {
-    let prebyte = Prebyte::try_from(byte(bytes, 0)).ok();
+    let prebyte = Prebyte::from_byte(byte(bytes, 0));
     let at = usize::from(prebyte.is_some());
     let opcode = *bytes.get(at).ok_or(DecodeFault::Outside)?;
     let void = VoidCode {

@@ -1,6 +1,6 @@
 // The op-code map, and what prebytes make of it.
 ghost use Rattle.std.specs.Prelude.{◌≡◌};
-ghost use Rattle.isa.specs.Forms.{allowed, turned, form_behind};
+ghost use Rattle.isa.specs.Forms.{allowed, form_behind};
 ghost use Rattle.isa.specs.Map.{plain_at};
 
 use instruction::{Index, Mode, Operation, Prebyte};
@@ -292,7 +292,7 @@ static OPCODES: [Option<(Operation, Mode)>; 256] = [
 fn unprefixed(opcode: u8) -> Option<(Operation, Mode)>
     ensures { result ≡ plain_at opcode }
 {
-    OPCODES[opcode as usize]
+    OPCODES[usize::from(opcode)]
 }
 
 // Whether an operation in a mode may have this index register.
@@ -305,17 +305,6 @@ pub fn allows(index: Index, operation: Operation, mode: Mode) -> bool
     }
 }
 
-// The mode itself, or the one with a pointer in the place of its operand.
-fn turn(indirect: bool, mode: Mode) -> Option<Mode>
-    ensures { result ≡ turned indirect mode }
-{
-    if indirect {
-        mode.indirect()
-    } else {
-        Some(mode)
-    }
-}
-
 // What an opcode stands for behind a prebyte, or without one.
 pub(crate) fn form_behind(prebyte: Option<Prebyte>, opcode: u8) -> Option<Form>
     ensures { result ≡ form_behind prebyte opcode }
@@ -325,7 +314,11 @@ pub(crate) fn form_behind(prebyte: Option<Prebyte>, opcode: u8) -> Option<Form>
     if !allows(index, operation, mode) {
         return None;
     }
-    let mode = turn(prebyte.is_some_and(Prebyte::is_indirect), mode)?;
+    let mode = if prebyte.is_some_and(Prebyte::is_indirect) {
+        mode.indirect()?
+    } else {
+        mode
+    };
     Some(Form {
         operation,
         mode,

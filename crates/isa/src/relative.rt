@@ -7,5 +7,5 @@ ghost use Rattle.isa.specs.Relative.{relative_target};
 pub fn relative_target(next: u16, offset: i8) -> u16
     ensures { result ≡ relative_target next offset }
 {
-    next.wrapping_add_signed(offset as i16)
+    next.wrapping_add_signed(i16::from(offset))
 }

@@ -4,8 +4,8 @@ ghost use Rattle.listing.specs.Pieces.{piece_of};
 
 use isa::Instruction;
 
-// What stands at an address: an instruction, or a byte that starts none. A stray byte is no instruction without a value,
-// but a case of its own.
+// What stands at an address: an instruction, or a byte that starts none. Two cases, and no `Option` of an instruction beside
+// address and bytes: whoever reads a listing asks which of the two stands there.
 #[derive(Clone, Copy)]
 pub enum Item<'a> {
     Instruction {

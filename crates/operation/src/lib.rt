@@ -91,6 +91,7 @@ impl Operation {
     pub fn number(self) -> usize
         ensures { result ≡ operation_number self }
     {
+        // an operation is a number by `as` alone
         self as usize
     }
 

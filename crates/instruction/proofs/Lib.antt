@@ -1,0 +1,2 @@
+pub mod Prebytes
+pub mod Few
