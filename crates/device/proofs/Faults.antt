@@ -6,7 +6,7 @@ use Rattle.device.specs.declared.description.Description.{Description}
 use Rattle.device.specs.declared.fault.DescriptionRefusal.{DescriptionRefusal}
 use Rattle.device.specs.declared.fault.DescriptionRefusal.TheVariants.{Length}
 use Rattle.device.specs.Refusals.{offset_of}
-use Rattle.device.specs.Record.{GoodCodeStart, GoodRamEnd, GoodStackTop, GoodSources, GoodLastByte, AtFault, goes_on, Refused, Lawful, Read, Taken}
+use Rattle.device.specs.Record.{GoodCodeStart, GoodRamEnd, GoodStackTop, GoodSources, GoodLastByte, AtFault, goes_on, Refused, Read, Taken}
 
 -- the fields that begin before o are good
 pub record GoodBefore (bs : List ℕ) (o : ℕ) : Type 0 where
@@ -16,10 +16,6 @@ pub record GoodBefore (bs : List ℕ) (o : ℕ) : Type 0 where
   pub six : 6 < o → GoodSources bs
   pub seven : 7 < o → GoodLastByte bs
   pub eight : 8 < o → length bs ≤ 8
-
--- a record is lawful where every field is good
-pub lawful : (bs : List ℕ) → GoodBefore bs 9 → Lawful bs
-lawful bs g o f = grind arith
 
 -- a refusal that names a fault after good fields names the first one
 pub refused : (bs : List ℕ) (e : DescriptionRefusal) → GoodBefore bs (offset_of e) → AtFault bs (offset_of e) → Refused bs e

@@ -34,7 +34,7 @@ GoodRamEnd bs = WordWithin bs 2 0x00FF 0x07FF
 
 -- the stack top is wholly there, its low bits are all 1, and the stack that it ends begins at 0080 or above and ends in RAM
 abbrev pub GoodStackTop : List ℕ → Type 0
-GoodStackTop bs = (6 ≤ length bs) × (word_at bs 4 % levels_of bs ≡ levels_of bs - 1) × (0x0080 + (levels_of bs - 1) ≤ word_at bs 4) × (word_at bs 4 ≤ word_at bs 2)
+GoodStackTop bs = WordWithin bs 4 (0x0080 + (levels_of bs - 1)) (word_at bs 2) × (word_at bs 4 % levels_of bs ≡ levels_of bs - 1)
 
 -- the number of sources is there, and at most 8
 abbrev pub GoodSources : List ℕ → Type 0
@@ -42,7 +42,7 @@ GoodSources bs = ByteUpTo bs 6 8
 
 -- the last byte is there, and 0
 abbrev pub GoodLastByte : List ℕ → Type 0
-GoodLastByte bs = (8 ≤ length bs) × (byte_at bs 7 ≡ 0)
+GoodLastByte bs = ByteUpTo bs 7 0
 
 -- a record is at fault at the offset of a field that is not good, and at 8 where it goes on
 pub data AtFault (bs : List ℕ) : ℕ → Type 0 where

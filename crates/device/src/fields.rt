@@ -6,10 +6,7 @@ ghost use Rattle.device.specs.Record.{byte_at, word_at, levels_of, Taken, ByteUp
 fn word_at(bytes: &[u8], offset: usize) -> Option<u16>
     ensures { Taken (offset + 2 ≤ length bytes.now) (word_at bytes.now offset) result }
 {
-    let [high, low, ..] = *bytes.get(offset..)? else {
-        return None;
-    };
-    Some(u16::from_be_bytes([high, low]))
+    Some(u16::from_be_bytes(*bytes.get(offset..)?.first_chunk()?))
 }
 
 // The word at an offset, from one value to another.

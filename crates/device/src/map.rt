@@ -9,7 +9,6 @@ use region::{Region, Span, Vector};
 
 impl Description {
     // The region that an address lies in: one of four, which share no address and leave none out.
-    #[tactic(auto, using(crate::proofs::Regions::partition))]
     pub fn region(&self, at: u16) -> Region
         ensures value { result ≡ region_of self.now at }
         ensures partition { Partition self.now }

@@ -6,7 +6,7 @@ use crate::fields::{self, byte, word};
 
 // The description in a record of 8 bytes: code start, RAM end and stack top as words, high byte
 // first, the number of sources, and a zero byte.
-#[tactic(auto, using(crate::proofs::Faults::lawful, crate::proofs::Faults::too_long))]
+#[tactic(auto, using(crate::proofs::Faults::too_long))]
 impl TryFrom<&[u8]> for Description {
     type Error = DescriptionRefusal;
 

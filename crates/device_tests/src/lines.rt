@@ -1,18 +1,22 @@
 // What the programs print.
 use memory_map::Report;
 use refusal::{Detail, Line, Place, VoidCode};
+use std::fmt;
 use std::process::Abort;
 use std::test::Fail;
 
 fn prints(
     rt: &(impl Abort + AllocGlobal),
-    number: u8,
-    detail: Detail,
+    value: &impl fmt::Display,
     text: &str,
 ) -> Result<(), Fail> {
-    let line = Line { number, detail }.to_string(rt.alloc())?;
-    assert_eq!(rt; line.as_str(), text);
+    let said = value.to_string(rt.alloc())?;
+    assert_eq!(rt; said.as_str(), text);
     Ok(())
+}
+
+fn line(number: u8, detail: Detail) -> Line {
+    Line { number, detail }
 }
 
 #[test]
@@ -29,45 +33,46 @@ fn refusals(rt: HostRuntime) -> Result<(), Fail> {
         prebyte: None,
         opcode: 0x0A,
     };
-    prints(&rt, 5, Detail::Nothing, "NO 05")?;
-    prints(&rt, 4, Detail::Offset(2), "NO 04 at 2")?;
-    prints(&rt, 9, Detail::Index(4095), "NO 09 at 4095")?;
-    prints(&rt, 1, Detail::Void(void), "NO 01 code 90 4F")?;
-    prints(&rt, 1, Detail::Void(plain), "NO 01 code 0A")?;
-    prints(&rt, 27, Detail::At(place), "NO 27 at FFC5 in FFC0")?;
+    prints(&rt, &line(5, Detail::Nothing), "NO 05")?;
+    prints(&rt, &line(4, Detail::Offset(2)), "NO 04 at 2")?;
+    prints(&rt, &line(9, Detail::Index(4095)), "NO 09 at 4095")?;
+    prints(&rt, &line(1, Detail::Void(void)), "NO 01 code 90 4F")?;
+    prints(&rt, &line(1, Detail::Void(plain)), "NO 01 code 0A")?;
+    prints(&rt, &line(27, Detail::At(place)), "NO 27 at FFC5 in FFC0")?;
     prints(
         &rt,
-        20,
-        Detail::VoidAt(void, place),
+        &line(20, Detail::VoidAt(void, place)),
         "NO 20 at FFC5 in FFC0",
     )
 }
 
 // What st7device prints of a record.
-fn reports(rt: &(impl Abort + AllocGlobal), bytes: &[u8], text: &str) -> Result<(), Fail> {
-    let report = Report::from(bytes).to_string(rt.alloc())?;
-    assert_eq!(rt; report.as_str(), text);
-    Ok(())
+fn report(bytes: &[u8]) -> Report {
+    Report::from(bytes)
 }
 
 #[test]
 fn refused_records(rt: HostRuntime) -> Result<(), Fail> {
-    reports(&rt, &[], "NO 04 at 0\n")?;
-    reports(&rt, &[0xC0, 0x00], "NO 04 at 2\n")?;
-    reports(&rt, &[0xC0, 0x00, 0x00, 0xFF, 0x01, 0x3F], "NO 04 at 4\n")?;
-    reports(
+    prints(&rt, &report(&[]), "NO 04 at 0\n")?;
+    prints(&rt, &report(&[0xC0, 0x00]), "NO 04 at 2\n")?;
+    prints(
         &rt,
-        &[0xC0, 0x00, 0x00, 0xFF, 0x00, 0xFF, 0x09, 0x00],
+        &report(&[0xC0, 0x00, 0x00, 0xFF, 0x01, 0x3F]),
+        "NO 04 at 4\n",
+    )?;
+    prints(
+        &rt,
+        &report(&[0xC0, 0x00, 0x00, 0xFF, 0x00, 0xFF, 0x09, 0x00]),
         "NO 04 at 6\n",
     )?;
-    reports(
+    prints(
         &rt,
-        &[0xC0, 0x00, 0x00, 0xFF, 0x00, 0xFF, 0x08],
+        &report(&[0xC0, 0x00, 0x00, 0xFF, 0x00, 0xFF, 0x08]),
         "NO 04 at 7\n",
     )?;
-    reports(
+    prints(
         &rt,
-        &[0xC0, 0x00, 0x00, 0xFF, 0x00, 0xFF, 0x08, 0x00, 0x00],
+        &report(&[0xC0, 0x00, 0x00, 0xFF, 0x00, 0xFF, 0x08, 0x00, 0x00]),
         "NO 04 at 8\n",
     )
 }
@@ -76,5 +81,9 @@ fn refused_records(rt: HostRuntime) -> Result<(), Fail> {
 fn no_sources(rt: HostRuntime) -> Result<(), Fail> {
     let map =
         "0000-007F  peripheral window\n0080-00FF  RAM\n0100-BFFF  unmapped\nC000-FFFF  image\n00C0-00FF  stack\n     0040  stack levels\nC000-FFDF  code region\n     4000  image length\n     FFFE  reset vector\n     FFFC  TRAP vector\n";
-    reports(&rt, &[0xC0, 0x00, 0x00, 0xFF, 0x00, 0xFF, 0x00, 0x00], map)
+    prints(
+        &rt,
+        &report(&[0xC0, 0x00, 0x00, 0xFF, 0x00, 0xFF, 0x00, 0x00]),
+        map,
+    )
 }

@@ -1,21 +1,18 @@
 -- What is read is written back.
-use Rattle.std.proofs.Common.{◌≡◌, ℕ, zero, suc, ◌+◌, ◌<◌, ◌≤◌, Bool, true, false, cond, ltb, leb, List, [], ◌∷◌, ◌++◌, length, get_or, take, Some, None, Ok, Err, Option, refl, ap, ◌∙◌, subst, arith}
+use Rattle.std.proofs.Common.{◌≡◌, ℕ, zero, suc, ◌+◌, ◌<◌, ◌≤◌, Bool, true, List, [], ◌∷◌, ◌++◌, length, get_or, take, Some, None, Option, sym, refl, ap, ◌∙◌, arith}
 use Rattle.std.proofs.lemmas.Int.{of_z-to_z}
-use Rattle.std.proofs.lemmas.Bool.{ltb-false}
 use Rattle.std.proofs.lemmas.Bool.Decides.{nat_tests}
 use Rattle.instruction.specs.declared.mode.Mode.{Mode}
 use Rattle.instruction.specs.declared.mode.Index.{Index}
 use Rattle.instruction.specs.declared.prebyte.Prebyte.{Prebyte}
-use Rattle.instruction.specs.declared.instruction.Instruction.{Instruction}
 use Rattle.instruction.specs.Modes.{mode_of, direct_of, is_indirect, operand_bytes}
 use Rattle.instruction.specs.Prebytes.{byte_of, prebyte_at, prebyte_for, prebyte_length, index_behind, pointer_behind}
 use Rattle.isa.specs.declared.opcode.Form.{Form}
-use Rattle.isa.specs.declared.decoder.Decoded.{Decoded}
-use Rattle.isa.specs.declared.fault.DecodeFault.TheVariants.{Outside}
 use Rattle.isa.specs.Forms.{allowed, form_behind}
-use Rattle.isa.specs.Decode.{operand_of, found, decode_of}
+use Rattle.isa.specs.Decode.{operand_of}
 use Rattle.instruction.proofs.Prebytes.{prebyte_again}
 use Rattle.isa.proofs.Forms.{mode_kept, few, Parts, parts}
+use Rattle.isa.proofs.Decoding.{read, reads_of}
 use Rattle.encode.specs.Encode.{bit_of, tail_of, prefix, opcode_of, written, encode_of}
 use Rattle.encode.specs.Laws.{WritesBack}
 use Rattle.encode.proofs.Opcodes.{opcode_again}
@@ -30,7 +27,7 @@ bit_small m n a b = grind arith
 tail_kept : (m : Mode) (n a b : ℕ) → a < 256 → b < 256 → tail_of (operand_of m n a b) ≡ take (operand_bytes m) (a ∷ b ∷ [])
 tail_kept m n a b ha hb = grind (arith, of_z-to_z)
 
--- the first bytes of a list
+-- the first bytes of a list, case by case: `grind` does not take lists apart so far
 front : (bs : List ℕ) (c : ℕ) → c ≤ 2 → 1 + c ≤ length bs → get_or bs 0 0 ∷ take c (get_or bs 1 0 ∷ get_or bs 2 0 ∷ []) ≡ take (1 + c) bs
 front [] c h l = absurd (omega arith)
 front (x ∷ bs) zero h l = refl
@@ -55,9 +52,6 @@ whole (Some q) (x ∷ bs) c e h l =
     let l1 : 1 + c ≤ length bs = omega arith in
     ap (λ (v : List ℕ). byte_of q ∷ v) (front bs c h l1) ∙ (ap (λ v. v ∷ take (1 + c) bs) (byte_again q x e) ∙ ap (λ (v : ℕ). take v (x ∷ bs)) s)
 
-read : Form → ℕ → ℕ → ℕ → Instruction
-read f n a b = record { operation = f.operation; index = f.index; operand = operand_of f.mode n a b }
-
 opcode_found : (i : Index) (d : Bool) (f : Form) (n a b : ℕ) → n < 256 → Parts i d n f → opcode_of (read f n a b) ≡ Some n
 unfolding read
 opcode_found i d f n a b h p = grind (arith, nat_tests, bit_small, mode_kept, bit_kept, opcode_again n h, p.plain)
@@ -72,33 +66,10 @@ written_is p f n a b h ha hb q =
     ap (written (read f n a b)) (opcode_found (index_behind p) (pointer_behind p) f n a b h r) ∙ simp (t, x, tail_kept f.mode n a b ha hb)
 
 pub writes_back : (bs : List ℕ) → ((k : ℕ) → get_or bs k 0 < 256) → WritesBack bs
-unfolding decode_of read
-writes_back bs hb d e = go (prebyte_at (get_or bs 0 0)) refl (leb (length bs) (prebyte_length (prebyte_at (get_or bs 0 0)))) e
-  where
-    last : (p : Option Prebyte) (f : Form) (t : Bool) → p ≡ prebyte_at (get_or bs 0 0) → form_behind p (get_or bs (prebyte_length p) 0) ≡ Some f
-        → ltb (length bs) (prebyte_length p + 1 + operand_bytes f.mode) ≡ t
-        → cond t (Err Outside)
-        (Ok (record {
-          instruction = read f (get_or bs (prebyte_length p) 0) (get_or bs (prebyte_length p + 1) 0) (get_or bs (prebyte_length p + 2) 0);
-          length = prebyte_length p + 1 + operand_bytes f.mode;
-        })) ≡ Ok d
-        → encode_of d.instruction ≡ Some (take d.length bs)
-    last p f true ep q t e = cc
-    last p f false ep q t e =
-        let k = prebyte_length p in
-        let made : Decoded = record { instruction = read f (get_or bs k 0) (get_or bs (k + 1) 0) (get_or bs (k + 2) 0); length = k + 1 + operand_bytes f.mode } in
-        let same : made ≡ d = cc in
-        subst (λ (v : Decoded). encode_of v.instruction ≡ Some (take v.length bs)) same
-        (written_is p f (get_or bs k 0) (get_or bs (k + 1) 0) (get_or bs (k + 2) 0) (hb k) (hb (k + 1)) (hb (k + 2)) q
-        ∙ ap Some (whole p bs (operand_bytes f.mode) ep (few f.mode) (ltb-false (length bs) (k + 1 + operand_bytes f.mode) t)))
-
-    form_go : (p : Option Prebyte) (w : Option Form) → p ≡ prebyte_at (get_or bs 0 0) → form_behind p (get_or bs (prebyte_length p) 0) ≡ w
-        → found bs p (prebyte_length p) (get_or bs (prebyte_length p) 0) w ≡ Ok d → encode_of d.instruction ≡ Some (take d.length bs)
-    form_go p None ep q e = cc
-    form_go p (Some f) ep q e = last p f (ltb (length bs) (prebyte_length p + 1 + operand_bytes f.mode)) ep q refl e
-
-    go : (p : Option Prebyte) → p ≡ prebyte_at (get_or bs 0 0) → (t : Bool)
-        → cond t (Err Outside) (found bs p (prebyte_length p) (get_or bs (prebyte_length p) 0) (form_behind p (get_or bs (prebyte_length p) 0))) ≡ Ok d
-        → encode_of d.instruction ≡ Some (take d.length bs)
-    go p ep true e = cc
-    go p ep false e = form_go p (form_behind p (get_or bs (prebyte_length p) 0)) ep refl e
+writes_back bs hb d e =
+    let p = prebyte_at (get_or bs 0 0) in
+    let k = prebyte_length p in
+    let r = reads_of bs d e in
+    ap encode_of (sym r.instruction)
+    ∙ (written_is p r.form (get_or bs k 0) (get_or bs (k + 1) 0) (get_or bs (k + 2) 0) (hb k) (hb (k + 1)) (hb (k + 2)) r.stands
+    ∙ ap Some (whole p bs (operand_bytes r.form.mode) refl (few r.form.mode) r.room ∙ ap (λ n. take n bs) r.size))

@@ -1,5 +1,5 @@
 -- The op-code map and the places of the operations undo each other.
-use Rattle.std.proofs.Common.{◌≡◌, ℕ, ◌<◌, cond, ltb, map, Some, None, Option, refl, ap}
+use Rattle.std.proofs.Common.{◌≡◌, ℕ, ◌<◌, cond, ltb, map, Some, None, Option, refl, arith}
 use Rattle.std.specs.List.{range_with_len}
 use Rattle.operation.specs.declared.Operation.{Operation}
 use Rattle.operation.proofs.Order.{all, same_everywhere}
@@ -44,6 +44,7 @@ had m b o = has m b (opcode_in o m b)
 abbrev due : Mode → ℕ → Operation → Option (Option Plain × ℕ)
 due m b o = is_to_have o m b (opcode_in o m b)
 
+-- a line for each mode: over all of them `grind` stops at its limit of case splits
 in_mode : (m : Mode) → map (λ b. map (had m b) all) (range_with_len 0 8) ≡ map (λ b. map (due m b) all) (range_with_len 0 8)
 in_mode Inherent = refl
 in_mode Accumulator = refl
@@ -66,10 +67,7 @@ in_mode BitPointer = refl
 in_mode BitPointerRelative = refl
 
 backed : (o : Operation) (m : Mode) (b : ℕ) (w : Option ℕ) → has m b w ≡ is_to_have o m b w → Backed o m b w
-backed o m b None e = tt
-backed o m b (Some n) e =
-    let pair : ◌≡◌ {A = Option Plain × ℕ} (plain_at n, bit_or m n b) (at m o, b) = cc in
-    (ap (λ p. p.0) pair, ap (λ p. p.1) pair)
+backed o m b w e = grind arith
 
 pub right : (o : Operation) (m : Mode) (b : ℕ) → b < 8 → Backed o m b (opcode_in o m b)
 right o m b h =

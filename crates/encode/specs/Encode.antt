@@ -1,5 +1,5 @@
 -- The bytes of an instruction.
-use Rattle.std.specs.Prelude.{ℕ, ◌/◌, ◌%◌, cond, List, [], ◌∷◌, ◌++◌, Some, None, Option, nat_lt}
+use Rattle.std.specs.Prelude.{ℕ, ◌/◌, ◌%◌, if◌then◌else◌, List, [], ◌∷◌, ◌++◌, Some, None, Option, nat_lt}
 use Rattle.std.specs.Int.{cast_unsigned, w8}
 use Rattle.instruction.specs.declared.prebyte.Prebyte.{Prebyte}
 use Rattle.instruction.specs.declared.instruction.Operand.{Operand}
@@ -62,15 +62,15 @@ prefix (Some p) = byte_of p ∷ []
 
 -- the opcode of an instruction, if its operation has such a mode and its bit is 0 to 7
 abbrev pub opcode_of : Instruction → Option ℕ
-opcode_of i = cond (nat_lt (bit_of i.operand) 8) (opcode_in i.operation (direct_of (mode_of i.operand)) (bit_of i.operand)) None
+opcode_of i = if nat_lt (bit_of i.operand) 8 then opcode_in i.operation (direct_of (mode_of i.operand)) (bit_of i.operand) else None
 
 -- prebyte, opcode and operand, if the index register may stand there
 abbrev pub written : Instruction → Option ℕ → Option (List ℕ)
 written i None = None
 written i (Some n) =
-    cond (allowed i.index i.operation (direct_of (mode_of i.operand)))
-    (Some (prefix (prebyte_of i) ++ (n ∷ tail_of i.operand)))
-    None
+    if allowed i.index i.operation (direct_of (mode_of i.operand))
+    then Some (prefix (prebyte_of i) ++ (n ∷ tail_of i.operand))
+    else None
 
 -- the bytes of an instruction; none of a value that is no instruction
 unfoldable pub encode_of : Instruction → Option (List ℕ)

@@ -1,6 +1,7 @@
 // The encoder.
-ghost use Rattle.std.specs.Prelude.{◌≡◌, ◌≤◌, ◌∷◌, ◌++◌, length, Some, option_map};
+ghost use Rattle.std.specs.Prelude.{◌≡◌, ◌≤◌, ◌∷◌, ◌++◌, length, option_map};
 ghost use Rattle.arrayvec.specs.ArrayVec.{array_vec_len};
+ghost use Rattle.instruction.specs.Rows.{prebyte_of};
 ghost use Rattle.isa.specs.Decode.{decode_of};
 ghost use Rattle.encode.specs.Buffer.{answer, buffer, length_taken, copied};
 ghost use Rattle.encode.specs.Encode.{tail_of, prefix, encode_of};
@@ -9,7 +10,7 @@ ghost use Rattle.encode.specs.Laws.{Signed, ReadsBack, WritesBack};
 use crate::places::opcode;
 use crate::refusals::EncodeRefusal;
 use arrayvec::ArrayVec;
-use isa::{DecodeFault, Instruction, Operand, Prebyte, allows, decode};
+use isa::{DecodeFault, Instruction, Operand, allows, decode};
 
 // Puts two bytes behind the others.
 fn push_both(bytes: [u8; 2], code: &mut ArrayVec<u8, 4>)
@@ -55,16 +56,17 @@ fn push_operand(operand: Operand, code: &mut ArrayVec<u8, 4>)
     }
 }
 
-fn join(prebyte: Option<Prebyte>, opcode: u8, operand: Operand) -> ArrayVec<u8, 4>
-    ensures value { result.items ≡ prefix prebyte ++ (opcode ∷ tail_of operand) }
-    ensures signed { Signed operand }
+// Prebyte, opcode and operand of an instruction.
+fn join(instruction: Instruction, opcode: u8) -> ArrayVec<u8, 4>
+    ensures value { result.items ≡ prefix (prebyte_of instruction) ++ (opcode ∷ tail_of instruction.operand) }
+    ensures signed { Signed instruction.operand }
 {
     let mut code = ArrayVec::new();
-    if let Some(prebyte) = prebyte {
+    if let Some(prebyte) = instruction.prebyte() {
         code.push(u8::from(prebyte));
     }
     code.push(opcode);
-    push_operand(operand, &mut code);
+    push_operand(instruction.operand, &mut code);
     code
 }
 
@@ -79,7 +81,7 @@ fn code_for(instruction: Instruction) -> Option<ArrayVec<u8, 4>>
     if !allows(instruction.index, instruction.operation, mode) {
         return None;
     }
-    Some(join(instruction.prebyte(), opcode, instruction.operand))
+    Some(join(instruction, opcode))
 }
 
 // Writes the bytes of an instruction into the front of the buffer, and answers how many there are. Decoded, they are the

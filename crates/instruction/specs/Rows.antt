@@ -2,7 +2,7 @@
 --   inherent, A, X, #byte, short, long, (X), (short,X), (long,X), relative, bit, bit and relative, and then for lengths
 --   [short], [long.w], ([short],X), ([long.w],X), [relative], [bit], [bit] and relative.
 -- 0 stands where the operation has no such mode.
-use Rattle.std.specs.Prelude.{ℕ, ◌+◌, cond, List, [], ◌∷◌, Option, ◌==◌, slice_index}
+use Rattle.std.specs.Prelude.{ℕ, ◌+◌, if◌then◌else◌, List, [], ◌∷◌, Option, ◌==◌, slice_index}
 use Rattle.operation.specs.declared.Operation.{Operation}
 use Rattle.operation.specs.declared.Operation.TheVariants.{Sub, Cp, Sbc, CpIndex, And, Bcp, Ld, St, Xor, Adc, Or, Add, Jp, Call, LdIndex, StIndex, Callr, Neg, Cpl, Srl, Rrc, Sra, Sll, Rlc, Dec, Inc, Tnz, Swap, Clr, Mul, Jra, Jrf, Jrugt, Jrule, Jrnc, Jrc, Jrne, Jreq, Jrnh, Jrh, Jrpl, Jrmi, Jrnm, Jrm, Jril, Jrih, Btjt, Btjf, Bset, Bres, Iret, Ret, Trap, PopA, PopIndex, PopCc, PushA, PushIndex, PushCc, Halt, Wfi, LdIndexFromOther, LdSFromIndex, LdSFromA, LdIndexFromS, LdIndexFromA, Rcf, Scf, Rim, Sim, Rsp, Nop, LdAFromS, LdAFromIndex}
 use Rattle.instruction.specs.declared.mode.Mode.{Mode}
@@ -244,7 +244,7 @@ row_length o m = slice_index (length_row o) (mode_number m)
 
 -- a number of a row with what a prebyte adds to it; where the row has none there is nothing to add to
 abbrev pub with_prebyte : ℕ → ℕ → ℕ
-with_prebyte n more = cond (n == 0) 0 (n + more)
+with_prebyte n more = if n == 0 then 0 else n + more
 
 -- the prebyte of an instruction, if it has one
 abbrev pub prebyte_of : Instruction → Option Prebyte

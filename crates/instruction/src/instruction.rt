@@ -85,7 +85,12 @@ impl Instruction {
     pub fn prebyte(self) -> Option<Prebyte>
         ensures { result ≡ prebyte_of self }
     {
-        Prebyte::of(self.index, self.operand.mode().is_indirect())
+        match (self.index, self.operand.mode().is_indirect()) {
+            (Index::X, false) => None,
+            (Index::Y, false) => Some(Prebyte::Y),
+            (Index::Y, true) => Some(Prebyte::PointerY),
+            (Index::X, true) => Some(Prebyte::Pointer),
+        }
     }
 
     // The cycles that the instruction takes; 0 where its operation has no such mode.

@@ -72,31 +72,31 @@ impl Mode {
     pub fn is_indirect(self) -> bool
         ensures { result ≡ is_indirect self }
     {
-        match self {
+        matches!(
+            self,
             Mode::ShortPointer
-            | Mode::LongPointer
-            | Mode::ShortPointerIndexed
-            | Mode::LongPointerIndexed
-            | Mode::RelativePointer
-            | Mode::BitPointer
-            | Mode::BitPointerRelative => true,
-            _ => false,
-        }
+                | Mode::LongPointer
+                | Mode::ShortPointerIndexed
+                | Mode::LongPointerIndexed
+                | Mode::RelativePointer
+                | Mode::BitPointer
+                | Mode::BitPointerRelative
+        )
     }
 
     // Whether the operand is found by an index register, or in one.
     pub fn is_indexed(self) -> bool
         ensures { result ≡ is_indexed self }
     {
-        match self {
-            Mode::IndexRegister
-            | Mode::Indexed
-            | Mode::ShortIndexed
-            | Mode::LongIndexed
-            | Mode::ShortPointerIndexed
-            | Mode::LongPointerIndexed => true,
-            _ => false,
-        }
+        matches!(
+            self,
+            Mode::LongPointerIndexed
+                | Mode::ShortPointerIndexed
+                | Mode::LongIndexed
+                | Mode::ShortIndexed
+                | Mode::Indexed
+                | Mode::IndexRegister
+        )
     }
 
     // How many bytes follow the opcode.

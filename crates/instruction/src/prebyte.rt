@@ -1,6 +1,6 @@
 // Prebytes: bytes that stand before an opcode and change what it stands for.
 ghost use Rattle.std.specs.Prelude.{◌≡◌};
-ghost use Rattle.instruction.specs.Prebytes.{byte_of, prebyte_at, index_of, has_pointer, cycles_added, prebyte_for};
+ghost use Rattle.instruction.specs.Prebytes.{byte_of, prebyte_at, index_of, has_pointer, cycles_added};
 
 use crate::mode::Index;
 
@@ -37,18 +37,6 @@ impl Prebyte {
             0x91 => Some(Prebyte::PointerY),
             0x92 => Some(Prebyte::Pointer),
             _ => None,
-        }
-    }
-
-    // The prebyte of an instruction with this index register, and with a pointer in the place of its operand or without.
-    pub fn of(index: Index, indirect: bool) -> Option<Prebyte>
-        ensures { result ≡ prebyte_for index indirect }
-    {
-        match (index, indirect) {
-            (Index::X, false) => None,
-            (Index::Y, false) => Some(Prebyte::Y),
-            (Index::Y, true) => Some(Prebyte::PointerY),
-            (Index::X, true) => Some(Prebyte::Pointer),
         }
     }
 

@@ -9,45 +9,47 @@ ghost use Rattle.instruction.specs.Rows.{row_length, row_cycles};
 use crate::mode::Mode;
 use operation::Operation;
 
-// The modes that have cycles of their own: all without a pointer.
+// The modes, and those that have cycles of their own: all without a pointer.
+const MODES: usize = 19;
+
 const DIRECT: usize = 12;
 
-const READING: [u8; 12] = [0, 0, 0, 2, 3, 4, 3, 4, 5, 0, 0, 0];
+const READING: [u8; DIRECT] = [0, 0, 0, 2, 3, 4, 3, 4, 5, 0, 0, 0];
 
-const STORING: [u8; 12] = [0, 0, 0, 0, 4, 5, 4, 5, 6, 0, 0, 0];
+const STORING: [u8; DIRECT] = [0, 0, 0, 0, 4, 5, 4, 5, 6, 0, 0, 0];
 
-const JUMPING: [u8; 12] = [0, 0, 0, 0, 2, 3, 2, 3, 4, 0, 0, 0];
+const JUMPING: [u8; DIRECT] = [0, 0, 0, 0, 2, 3, 2, 3, 4, 0, 0, 0];
 
-const CALLING: [u8; 12] = [0, 0, 0, 0, 5, 6, 5, 6, 7, 0, 0, 0];
+const CALLING: [u8; DIRECT] = [0, 0, 0, 0, 5, 6, 5, 6, 7, 0, 0, 0];
 
-const CHANGING: [u8; 12] = [0, 3, 3, 0, 5, 0, 5, 6, 0, 0, 0, 0];
+const CHANGING: [u8; DIRECT] = [0, 3, 3, 0, 5, 0, 5, 6, 0, 0, 0, 0];
 
-const TESTING: [u8; 12] = [0, 3, 3, 0, 4, 0, 4, 5, 0, 0, 0, 0];
+const TESTING: [u8; DIRECT] = [0, 3, 3, 0, 4, 0, 4, 5, 0, 0, 0, 0];
 
 // A constant's value calls no function, so each number of cycles has a row of its own.
-const INHERENT_2: [u8; 12] = [2, 0, 0, 0, 0, 0, 0, 0, 0, 0, 0, 0];
+const INHERENT_2: [u8; DIRECT] = [2, 0, 0, 0, 0, 0, 0, 0, 0, 0, 0, 0];
 
-const INHERENT_3: [u8; 12] = [3, 0, 0, 0, 0, 0, 0, 0, 0, 0, 0, 0];
+const INHERENT_3: [u8; DIRECT] = [3, 0, 0, 0, 0, 0, 0, 0, 0, 0, 0, 0];
 
-const INHERENT_4: [u8; 12] = [4, 0, 0, 0, 0, 0, 0, 0, 0, 0, 0, 0];
+const INHERENT_4: [u8; DIRECT] = [4, 0, 0, 0, 0, 0, 0, 0, 0, 0, 0, 0];
 
-const INHERENT_6: [u8; 12] = [6, 0, 0, 0, 0, 0, 0, 0, 0, 0, 0, 0];
+const INHERENT_6: [u8; DIRECT] = [6, 0, 0, 0, 0, 0, 0, 0, 0, 0, 0, 0];
 
-const INHERENT_9: [u8; 12] = [9, 0, 0, 0, 0, 0, 0, 0, 0, 0, 0, 0];
+const INHERENT_9: [u8; DIRECT] = [9, 0, 0, 0, 0, 0, 0, 0, 0, 0, 0, 0];
 
-const INHERENT_10: [u8; 12] = [10, 0, 0, 0, 0, 0, 0, 0, 0, 0, 0, 0];
+const INHERENT_10: [u8; DIRECT] = [10, 0, 0, 0, 0, 0, 0, 0, 0, 0, 0, 0];
 
-const INHERENT_11: [u8; 12] = [11, 0, 0, 0, 0, 0, 0, 0, 0, 0, 0, 0];
+const INHERENT_11: [u8; DIRECT] = [11, 0, 0, 0, 0, 0, 0, 0, 0, 0, 0, 0];
 
-const RELATIVE_3: [u8; 12] = [0, 0, 0, 0, 0, 0, 0, 0, 0, 3, 0, 0];
+const RELATIVE_3: [u8; DIRECT] = [0, 0, 0, 0, 0, 0, 0, 0, 0, 3, 0, 0];
 
-const RELATIVE_6: [u8; 12] = [0, 0, 0, 0, 0, 0, 0, 0, 0, 6, 0, 0];
+const RELATIVE_6: [u8; DIRECT] = [0, 0, 0, 0, 0, 0, 0, 0, 0, 6, 0, 0];
 
-const BIT: [u8; 12] = [0, 0, 0, 0, 0, 0, 0, 0, 0, 0, 5, 0];
+const BIT: [u8; DIRECT] = [0, 0, 0, 0, 0, 0, 0, 0, 0, 0, 5, 0];
 
-const BIT_RELATIVE: [u8; 12] = [0, 0, 0, 0, 0, 0, 0, 0, 0, 0, 0, 5];
+const BIT_RELATIVE: [u8; DIRECT] = [0, 0, 0, 0, 0, 0, 0, 0, 0, 0, 0, 5];
 
-static CYCLES: [[u8; 12]; 74] = [
+static CYCLES: [[u8; DIRECT]; Operation::COUNT] = [
     READING, // Sub
     READING, // Cp
     READING, // Sbc
@@ -124,21 +126,21 @@ static CYCLES: [[u8; 12]; 74] = [
     INHERENT_2, // LdAFromIndex
 ];
 
-const READING_LENGTHS: [u8; 19] = [0, 0, 0, 2, 2, 3, 1, 2, 3, 0, 0, 0, 2, 2, 2, 2, 0, 0, 0];
+const READING_LENGTHS: [u8; MODES] = [0, 0, 0, 2, 2, 3, 1, 2, 3, 0, 0, 0, 2, 2, 2, 2, 0, 0, 0];
 
-const STORING_LENGTHS: [u8; 19] = [0, 0, 0, 0, 2, 3, 1, 2, 3, 0, 0, 0, 2, 2, 2, 2, 0, 0, 0];
+const STORING_LENGTHS: [u8; MODES] = [0, 0, 0, 0, 2, 3, 1, 2, 3, 0, 0, 0, 2, 2, 2, 2, 0, 0, 0];
 
-const CHANGING_LENGTHS: [u8; 19] = [0, 1, 1, 0, 2, 0, 1, 2, 0, 0, 0, 0, 2, 0, 2, 0, 0, 0, 0];
+const CHANGING_LENGTHS: [u8; MODES] = [0, 1, 1, 0, 2, 0, 1, 2, 0, 0, 0, 0, 2, 0, 2, 0, 0, 0, 0];
 
-const INHERENT_LENGTHS: [u8; 19] = [1, 0, 0, 0, 0, 0, 0, 0, 0, 0, 0, 0, 0, 0, 0, 0, 0, 0, 0];
+const INHERENT_LENGTHS: [u8; MODES] = [1, 0, 0, 0, 0, 0, 0, 0, 0, 0, 0, 0, 0, 0, 0, 0, 0, 0, 0];
 
-const RELATIVE_LENGTHS: [u8; 19] = [0, 0, 0, 0, 0, 0, 0, 0, 0, 2, 0, 0, 0, 0, 0, 0, 2, 0, 0];
+const RELATIVE_LENGTHS: [u8; MODES] = [0, 0, 0, 0, 0, 0, 0, 0, 0, 2, 0, 0, 0, 0, 0, 0, 2, 0, 0];
 
-const BIT_LENGTHS: [u8; 19] = [0, 0, 0, 0, 0, 0, 0, 0, 0, 0, 2, 0, 0, 0, 0, 0, 0, 2, 0];
+const BIT_LENGTHS: [u8; MODES] = [0, 0, 0, 0, 0, 0, 0, 0, 0, 0, 2, 0, 0, 0, 0, 0, 0, 2, 0];
 
-const BIT_RELATIVE_LENGTHS: [u8; 19] = [0, 0, 0, 0, 0, 0, 0, 0, 0, 0, 0, 3, 0, 0, 0, 0, 0, 0, 3];
+const BIT_RELATIVE_LENGTHS: [u8; MODES] = [0, 0, 0, 0, 0, 0, 0, 0, 0, 0, 0, 3, 0, 0, 0, 0, 0, 0, 3];
 
-static LENGTHS: [[u8; 19]; 74] = [
+static LENGTHS: [[u8; MODES]; Operation::COUNT] = [
     READING_LENGTHS, // Sub
     READING_LENGTHS, // Cp
     READING_LENGTHS, // Sbc
@@ -227,12 +229,10 @@ impl Mode {
     pub fn cycles(self, operation: Operation) -> u8
         ensures { result ≡ row_cycles operation self }
     {
-        let column = self.column();
-        if column < DIRECT {
-            CYCLES[operation.number()][column]
-        } else {
-            0
-        }
+        CYCLES[operation.number()]
+            .get(self.column())
+            .copied()
+            .unwrap_or(0)
     }
 
     // The bytes of an operation's opcode and operand in the mode.

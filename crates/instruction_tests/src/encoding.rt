@@ -1,4 +1,5 @@
 // Which bytes an instruction has.
+use crate::printing::prints;
 use encode::{EncodeRefusal, encode, reencode};
 use isa::{Index, Instruction, Operand, Operation};
 use refusal::Line;
@@ -72,11 +73,8 @@ fn short_buffers(rt: HostRuntime) {
 
 #[test]
 fn lines(rt: HostRuntime) -> Result<(), Fail> {
-    let none = Line::from(&EncodeRefusal::NoInstruction).to_string(rt.alloc())?;
-    assert_eq!(rt; none.as_str(), "NO 10");
-    let short = Line::from(&EncodeRefusal::ShortBuffer).to_string(rt.alloc())?;
-    assert_eq!(rt; short.as_str(), "NO 11");
-    Ok(())
+    prints(&rt, &Line::from(&EncodeRefusal::NoInstruction), "NO 10")?;
+    prints(&rt, &Line::from(&EncodeRefusal::ShortBuffer), "NO 11")
 }
 
 #[test]

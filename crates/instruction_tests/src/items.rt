@@ -1,30 +1,35 @@
 // A part of an image as items.
-use isa::{Instruction, Operation};
+use isa::{Index, Instruction, Operand, Operation};
 use listing::{Item, Items};
-use std::process::Abort;
 
-fn stray(rt: &impl Abort, item: Option<Item>, at: u16, byte: u8) {
-    let Some(Item::Stray { address, bytes }) = item else {
-        panic!(rt; "no stray byte at {at:04X}");
-    };
-    assert_eq!(rt; address, at);
-    assert_eq!(rt; bytes, [byte].as_slice());
+const CLR_A: Instruction = Instruction {
+    operation: Operation::Clr,
+    index: Index::X,
+    operand: Operand::Accumulator,
+};
+
+const LD_POINTER: Instruction = Instruction {
+    operation: Operation::Ld,
+    index: Index::X,
+    operand: Operand::LongPointerIndexed(0x89),
+};
+
+const NOP: Instruction = Instruction {
+    operation: Operation::Nop,
+    index: Index::X,
+    operand: Operand::Inherent,
+};
+
+fn stray(address: u16, bytes: &[u8]) -> Option<Item<'_>> {
+    Some(Item::Stray { address, bytes })
 }
 
-fn instruction(rt: &impl Abort, item: Option<Item>, at: u16, length: usize, operation: Operation) {
-    let Some(
-        Item::Instruction {
-            address,
-            bytes,
-            instruction,
-        },
-    ) = item
-    else {
-        panic!(rt; "no instruction at {at:04X}");
-    };
-    assert_eq!(rt; address, at);
-    assert_eq!(rt; bytes.len(), length);
-    assert_eq!(rt; instruction.operation, operation);
+fn instruction(address: u16, bytes: &[u8], instruction: Instruction) -> Option<Item<'_>> {
+    Some(Item::Instruction {
+        address,
+        bytes,
+        instruction,
+    })
 }
 
 #[test]
@@ -32,12 +37,15 @@ fn strays_and_instructions(rt: HostRuntime) {
     let bytes = [0x90, 0x4F, 0x92, 0xD6, 0x89, 0xA6];
     let (mut items, past) = Items::new(0xC000, &bytes);
     assert!(rt; past.is_empty());
-    stray(&rt, items.next(), 0xC000, 0x90);
-    instruction(&rt, items.next(), 0xC001, 1, Operation::Clr);
-    instruction(&rt, items.next(), 0xC002, 3, Operation::Ld);
+    assert_eq!(rt; items.next(), stray(0xC000, &[0x90]));
+    assert_eq!(rt; items.next(), instruction(0xC001, &[0x4F], CLR_A));
+    assert_eq!(rt;
+        items.next(),
+        instruction(0xC002, &[0x92, 0xD6, 0x89], LD_POINTER)
+    );
     // its operand byte lies past the part
-    stray(&rt, items.next(), 0xC005, 0xA6);
-    assert!(rt; items.next().is_none());
+    assert_eq!(rt; items.next(), stray(0xC005, &[0xA6]));
+    assert_eq!(rt; items.next(), None);
 }
 
 #[test]
@@ -45,7 +53,7 @@ fn last_addresses(rt: HostRuntime) {
     let bytes = [0x9D, 0xA6, 0x12, 0x9D];
     let (mut items, past) = Items::new(0xFFFE, &bytes);
     assert_eq!(rt; past, [0x12, 0x9D].as_slice());
-    instruction(&rt, items.next(), 0xFFFE, 1, Operation::Nop);
-    stray(&rt, items.next(), 0xFFFF, 0xA6);
-    assert!(rt; items.next().is_none());
+    assert_eq!(rt; items.next(), instruction(0xFFFE, &[0x9D], NOP));
+    assert_eq!(rt; items.next(), stray(0xFFFF, &[0xA6]));
+    assert_eq!(rt; items.next(), None);
 }

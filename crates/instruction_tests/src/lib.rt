@@ -8,4 +8,6 @@ mod encoding;
 #[cfg(test)]
 mod items;
 #[cfg(test)]
+mod printing;
+#[cfg(test)]
 mod texts;

@@ -1,4 +1,5 @@
 // How instructions are written.
+use crate::printing::prints;
 use isa::decode;
 use notation::Statement;
 use std::process::Abort;
@@ -11,13 +12,11 @@ fn written(
     text: &str,
 ) -> Result<(), Fail> {
     let instruction = decode(bytes)?.instruction;
-    let said = Statement {
+    let statement = Statement {
         instruction,
         address,
-    }
-    .to_string(rt.alloc())?;
-    assert_eq!(rt; said.as_str(), text);
-    Ok(())
+    };
+    prints(rt, &statement, text)
 }
 
 #[test]

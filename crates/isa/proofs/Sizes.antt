@@ -1,10 +1,9 @@
 -- The rows of lengths have, for every opcode and prebyte, the opcode's byte and those of its mode's operand.
-use Rattle.std.proofs.Common.{◌≡◌, ℕ, ◌+◌, ◌<◌, Bool, true, false, eqb, map, Some, None, Option, sym, refl, ap, ◌∙◌}
+use Rattle.std.proofs.Common.{◌≡◌, ℕ, ◌+◌, ◌<◌, Bool, true, eqb, map, Some, None, Option, sym, ap, ◌∙◌, arith}
 use Rattle.std.specs.List.{range_with_len}
 use Rattle.std.proofs.lemmas.Bool.{eqb-true}
 use Rattle.isa.proofs.Below.{same_below}
 use Rattle.instruction.specs.declared.mode.Index.{Index}
-use Rattle.instruction.specs.declared.mode.Index.TheVariants.{X, Y}
 use Rattle.instruction.specs.Modes.{operand_bytes}
 use Rattle.instruction.specs.Rows.{row_length}
 use Rattle.isa.specs.declared.opcode.Form.{Form}
@@ -15,10 +14,7 @@ sized None = true
 sized (Some f) = eqb (row_length f.operation f.mode) (1 + operand_bytes f.mode)
 
 all_sized : (i : Index) (b : Bool) → map (λ n. sized (form_at i b n)) (range_with_len 0 256) ≡ map (λ n. true) (range_with_len 0 256)
-all_sized X false = refl
-all_sized X true = refl
-all_sized Y false = refl
-all_sized Y true = refl
+all_sized i b = grind arith
 
 each_sized : (i : Index) (b : Bool) (n : ℕ) → n < 256 → sized (form_at i b n) ≡ true
 each_sized i b n h = same_below (λ n. sized (form_at i b n)) (λ n. true) 256 (all_sized i b) n h

@@ -1,5 +1,5 @@
 -- The instruction at the start of a list of bytes.
-use Rattle.std.specs.Prelude.{ℕ, ◌+◌, ◌*◌, ◌/◌, ◌%◌, cond, List, length, Some, None, Ok, Err, Option, Result, nat_le, nat_lt, slice_index}
+use Rattle.std.specs.Prelude.{ℕ, ◌+◌, ◌*◌, ◌/◌, ◌%◌, if◌then◌else◌, List, length, Some, None, Ok, Err, Option, Result, option_map, nat_le, nat_lt, slice_index}
 use Rattle.instruction.specs.declared.mode.Mode.{Mode}
 use Rattle.instruction.specs.declared.mode.Mode.TheVariants.{Inherent, Accumulator, IndexRegister, Immediate, Short, Long, Indexed, ShortIndexed, LongIndexed, Relative, Bit, BitRelative, ShortPointer, LongPointer, ShortPointerIndexed, LongPointerIndexed, RelativePointer, BitPointer, BitPointerRelative}
 use Rattle.instruction.specs.declared.prebyte.Prebyte.{Prebyte}
@@ -43,26 +43,21 @@ operand_of BitPointerRelative n a b = O.BitPointerRelative (bit_in n) a (signed 
 -- the instruction of an opcode n at the place k that stands for f: its operand's bytes have to be there
 abbrev pub completed : List ℕ → ℕ → ℕ → Form → Result Decoded DecodeFault
 completed bs k n f =
-    cond (nat_lt (length bs) (k + 1 + operand_bytes f.mode))
-    (Err Outside)
-    (Ok (record {
+    if nat_lt (length bs) (k + 1 + operand_bytes f.mode)
+    then Err Outside
+    else Ok (record {
       instruction = record { operation = f.operation; index = f.index; operand = operand_of f.mode n (slice_index bs (k + 1)) (slice_index bs (k + 2)) };
       length = k + 1 + operand_bytes f.mode;
-    }))
+    })
 
--- a prebyte as it is told of a void code: by its byte, if there is one
-abbrev pub prebyte_told : Option Prebyte → Option ℕ
-prebyte_told None = None
-prebyte_told (Some p) = Some (byte_of p)
-
--- an opcode that stands for nothing is void, whatever follows it
+-- an opcode that stands for nothing is void, whatever follows it; the prebyte is told by its byte, if there is one
 abbrev pub found : List ℕ → Option Prebyte → ℕ → ℕ → Option Form → Result Decoded DecodeFault
-found bs p k n None = Err (Void (record { prebyte = prebyte_told p; opcode = n }))
+found bs p k n None = Err (Void (record { prebyte = option_map byte_of p; opcode = n }))
 found bs p k n (Some f) = completed bs k n f
 
 -- the same with the opcode read at the place k
 abbrev pub decode_at : List ℕ → Option Prebyte → ℕ → Result Decoded DecodeFault
-decode_at bs p k = cond (nat_le (length bs) k) (Err Outside) (found bs p k (slice_index bs k) (form_behind p (slice_index bs k)))
+decode_at bs p k = if nat_le (length bs) k then Err Outside else found bs p k (slice_index bs k) (form_behind p (slice_index bs k))
 
 -- the instruction at the start of the bytes, and its length; or why there is none. The first byte is a prebyte, or the opcode itself
 unfoldable pub decode_of : List ℕ → Result Decoded DecodeFault

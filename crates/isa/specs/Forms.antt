@@ -1,5 +1,5 @@
 -- What the prebytes make of an opcode: $90 puts Y for X, $92 puts a pointer in the place of the operand, $91 does both.
-use Rattle.std.specs.Prelude.{ℕ, Bool, true, false, cond, Some, None, Option}
+use Rattle.std.specs.Prelude.{ℕ, Bool, true, false, if◌then◌else◌, Some, None, Option}
 use Rattle.operation.specs.declared.Operation.{Operation}
 use Rattle.instruction.specs.declared.mode.Mode.{Mode}
 use Rattle.instruction.specs.declared.mode.Index.{Index}
@@ -14,7 +14,7 @@ use Rattle.isa.specs.Map.{Plain, plain_at}
 
 -- whether an opcode names X: its operation works on X, or its mode finds the operand by X
 abbrev pub names_index : Operation → Mode → Bool
-names_index o m = cond (uses_index o) true (is_indexed m)
+names_index o m = if uses_index o then true else is_indexed m
 
 -- Y stands only where X is named
 abbrev pub allowed : Index → Operation → Mode → Bool
@@ -34,7 +34,7 @@ formed i o None = None
 -- what an opcode stands for, once it is known what it stands for without a prebyte
 abbrev pub form_of : Index → Bool → Option Plain → Option Form
 form_of i indirect None = None
-form_of i indirect (Some (o, m)) = cond (allowed i o m) (formed i o (turned indirect m)) None
+form_of i indirect (Some (o, m)) = if allowed i o m then formed i o (turned indirect m) else None
 
 -- what an opcode stands for, with an index register, and with a pointer or without
 abbrev pub form_at : Index → Bool → ℕ → Option Form

@@ -8,14 +8,14 @@ use crate::opcode::{Form, form_behind};
 use instruction::{Instruction, Mode, Operand, Prebyte};
 use refusal::VoidCode;
 
-// An instruction, and how many bytes it has.
+// An instruction, and how many bytes it has: the number is known where it was decoded, and the rows are not asked again.
 #[derive(Clone, Copy, PartialEq, Eq, Debug)]
 pub struct Decoded {
     pub instruction: Instruction,
     pub length: usize,
 }
 
-// The byte at a place, and 0 past the end.
+// The byte at a place, and 0 past the end: only a mode without that byte asks there, and does not look at it.
 fn byte(bytes: &[u8], i: usize) -> u8
     ensures { result ≡ slice_index bytes.now i }
 {
@@ -81,13 +81,13 @@ fn complete(bytes: &[u8], at: usize, opcode: u8, form: Form) -> Result<Decoded, 
 }
 
 // The instruction at the start of the bytes.
-#[tactic(auto, using(crate::proofs::Decoding::found_is), unfolding(crate::specs::Decode::decode_of))]
+#[tactic(auto, using(crate::proofs::Decoding::found_is, crate::proofs::Laws::sized), unfolding(crate::specs::Decode::decode_of))]
 pub fn decode(bytes: &[u8]) -> Result<Decoded, DecodeFault>
     ensures value { result ≡ decode_of bytes.now }
     ensures sized { Sized bytes.now result }
     ensures timed { Timed result }
 {
-    let prebyte = Prebyte::from_byte(byte(bytes, 0));
+    let prebyte = bytes.first().and_then(|first| Prebyte::from_byte(*first));
     let at = usize::from(prebyte.is_some());
     let opcode = *bytes.get(at).ok_or(DecodeFault::Outside)?;
     let void = VoidCode {

@@ -13,7 +13,7 @@ pub struct Form {
     pub index: Index,
 }
 
-// What each opcode without a prebyte stands for, a row for each high digit.
+// What each opcode without a prebyte stands for, a row for each high digit: a pair, taken apart where it is read.
 static OPCODES: [Option<(Operation, Mode)>; 256] = [
     // $00 to $0F
     Some((Operation::Btjt, Mode::BitRelative)),

@@ -6,7 +6,7 @@ use isa::Instruction;
 
 // What stands at an address: an instruction, or a byte that starts none. Two cases, and no `Option` of an instruction beside
 // address and bytes: whoever reads a listing asks which of the two stands there.
-#[derive(Clone, Copy)]
+#[derive(Clone, Copy, PartialEq, Eq, Debug)]
 pub enum Item<'a> {
     Instruction {
         address: u16,

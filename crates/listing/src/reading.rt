@@ -31,7 +31,7 @@ impl<'a> Iterator for Items<'a> {
         if self.bytes.is_empty() {
             return None;
         }
-        // a byte stands there, so no bit is lost
+        // by `as`, and not `try_from`: a byte stands there, so no bit is lost and there is nothing to refuse
         let address = self.start as u16;
         match decode(self.bytes) {
             Ok(decoded) => {

@@ -67,7 +67,7 @@ impl fmt::Display for PartLines {
             label: "code region",
         };
         let length = NumberLine {
-            // the proofs show that a u16 holds the length of every image
+            // by `as`, and not `try_from`: a u16 holds the length of every image, so there is nothing to refuse
             number: self.0.image_length() as u16,
             label: "image length",
         };

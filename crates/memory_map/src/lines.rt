@@ -1,4 +1,5 @@
 // The lines of a memory map, each with its end.
+// Three types: their texts differ in what stands before and behind the label; a generic one would need both as parameters.
 ghost use Rattle.std.specs.Prelude.{Some};
 ghost use Rattle.memory_map.specs.Maps.{span_line, number_line, vector_line, source_lines};
 

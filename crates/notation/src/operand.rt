@@ -30,7 +30,7 @@ impl fmt::Display for OperandNotation {
         let Instruction { index, operand, .. } = self.0.instruction;
         let index = Register::Index.name(index);
         match operand {
-            Operand::Inherent => write!(f, ""),
+            Operand::Inherent => Ok(()),
             Operand::Accumulator => write!(f, "A"),
             Operand::IndexRegister => write!(f, "{index}"),
             Operand::Immediate(b) => write!(f, "#${}", Hex2(b)),

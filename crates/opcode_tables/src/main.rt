@@ -9,7 +9,6 @@ mod tally;
 
 use anyhow::anyhow;
 use codes::print_codes;
-use row::is_right;
 use std::io::Read;
 use tally::Tally;
 
@@ -19,7 +18,7 @@ fn run(rt: &HostRuntime) -> anyhow::Result<()> {
     let mut tally = Tally::default();
     for line in input.split_inclusive(|byte| *byte == b'\n') {
         let row = line.strip_suffix(b"\n").unwrap_or(line);
-        tally.count(rt, row, is_right(rt.alloc(), row)?)?;
+        tally.count(rt, row)?;
     }
     tally.end(rt)?;
     print_codes(rt)?;

@@ -20,10 +20,11 @@ struct Row<'a> {
 impl<'a> fmt::Display for Row<'a> {
     fn fmt<W: fmt::Write>(&self, f: &mut fmt::Formatter<W>) -> fmt::Result {
         let Row { bytes, instruction } = *self;
-        let mut separator = "";
-        for byte in bytes {
-            write!(f, "{separator}{byte:02X}")?;
-            separator = " ";
+        if let [first, rest @ ..] = bytes {
+            write!(f, "{first:02X}")?;
+            for byte in rest {
+                write!(f, " {byte:02X}")?;
+            }
         }
         let operands = Operands::from(Statement {
             instruction,
@@ -50,7 +51,7 @@ fn digit(character: u8) -> u8
     }
 }
 
-// The bytes in front of a row's first bar, with zeros up to four.
+// The bytes in front of a row's first bar, with zeros up to four: the decoder is given four bytes, and takes those that it needs.
 fn bytes_of(row: &[u8]) -> [u8; 4] {
     let mut bytes = [0; 4];
     for (byte, code) in bytes.iter_mut().zip(row.chunks(3)) {

@@ -1,30 +1,33 @@
 // Counts of rows, a line for each mnemonic.
-use crate::row::mnemonic;
+use crate::row::{is_right, mnemonic};
+
+// Rows that follow one another under one mnemonic; without one, rows that are no instruction.
+#[derive(Clone, Copy)]
+struct Group {
+    mnemonic: Option<&'static str>,
+    rows: u32,
+}
 
 #[derive(Clone, Copy, Default)]
 pub(crate) struct Tally {
-    // of the rows that are counted now, if they are an instruction
-    mnemonic: Option<&'static str>,
-    rows: u32,
+    // that of the last row, once there is a row
+    group: Option<Group>,
     right: u32,
     pub(crate) wrong: u32,
 }
 
 impl Tally {
     // Counts a row, under its mnemonic.
-    pub(crate) fn count(
-        &mut self,
-        rt: &HostRuntime,
-        row: &[u8],
-        right: bool,
-    ) -> anyhow::Result<()> {
+    pub(crate) fn count(&mut self, rt: &HostRuntime, row: &[u8]) -> anyhow::Result<()> {
+        let right = is_right(rt.alloc(), row)?;
         let mnemonic = mnemonic(row);
-        if mnemonic != self.mnemonic {
-            self.print(rt)?;
-            self.mnemonic = mnemonic;
-            self.rows = 0;
+        match &mut self.group {
+            Some(group) if group.mnemonic == mnemonic => group.rows = group.rows.saturating_add(1),
+            _ => {
+                self.print(rt)?;
+                self.group = Some(Group { mnemonic, rows: 1 });
+            }
         }
-        self.rows = self.rows.saturating_add(1);
         if right {
             self.right = self.right.saturating_add(1);
         } else {
@@ -34,8 +37,8 @@ impl Tally {
     }
 
     fn print(&self, rt: &HostRuntime) -> anyhow::Result<()> {
-        if self.rows > 0 {
-            println!(rt; "{} {}", self.mnemonic.unwrap_or(""), self.rows)?;
+        if let Some(group) = self.group {
+            println!(rt; "{} {}", group.mnemonic.unwrap_or(""), group.rows)?;
         }
         Ok(())
     }

@@ -87,6 +87,9 @@ pub enum Operation {
 }
 
 impl Operation {
+    // How many there are.
+    pub const COUNT: usize = 74;
+
     // Its place in the order of all operations.
     pub fn number(self) -> usize
         ensures { result ≡ operation_number self }
@@ -99,20 +102,20 @@ impl Operation {
     pub fn uses_index(self) -> bool
         ensures { result ≡ uses_index self }
     {
-        match self {
+        matches!(
+            self,
             Operation::CpIndex
-            | Operation::LdIndex
-            | Operation::StIndex
-            | Operation::Mul
-            | Operation::PopIndex
-            | Operation::PushIndex
-            | Operation::LdIndexFromOther
-            | Operation::LdSFromIndex
-            | Operation::LdIndexFromS
-            | Operation::LdIndexFromA
-            | Operation::LdAFromIndex => true,
-            _ => false,
-        }
+                | Operation::LdIndex
+                | Operation::StIndex
+                | Operation::Mul
+                | Operation::PopIndex
+                | Operation::PushIndex
+                | Operation::LdIndexFromOther
+                | Operation::LdSFromIndex
+                | Operation::LdIndexFromS
+                | Operation::LdIndexFromA
+                | Operation::LdAFromIndex
+        )
     }
 
     // The operation's name in an assembler's text. Where several are in use for one code, this one is used: JRA (also JRT), JRC

@@ -8,7 +8,7 @@ ghost use Rattle.refusal.specs.Lines.{place_text, code_text, detail_text, line_t
 use numerals::{Dec2, Hex2, Hex4};
 use std::fmt;
 
-// A code that is no instruction: the opcode, with the prebyte before it if there was one.
+// A code that is no instruction: the opcode, with the prebyte before it if there was one. Both are bytes, told as they were read.
 #[derive(Clone, Copy, PartialEq, Eq, Debug)]
 pub struct VoidCode {
     pub prebyte: Option<u8>,
@@ -22,7 +22,7 @@ pub struct Place {
     pub entry: u16,
 }
 
-// What goes with a number, as plain numbers.
+// What goes with a number, as plain numbers. `Nothing` is a case among the others, and no `None` around them: so one `Display` writes every detail.
 #[derive(Clone, Copy, PartialEq, Eq, Debug)]
 pub enum Detail {
     Nothing,
@@ -35,7 +35,8 @@ pub enum Detail {
     VoidAt(VoidCode, Place),
 }
 
-// A refusal, by its number and its detail. Contracts speak of these two.
+// A refusal, by its number and its detail. Contracts speak of these two. The cases are enums; the number is the plain one that
+// programs print.
 pub trait Numbered {
     ghost numbered: { Self → ℕ };
 
@@ -95,8 +96,7 @@ impl fmt::Display for Detail {
             Detail::Offset(offset) => write!(f, " at {offset}"),
             Detail::Index(index) => write!(f, " at {index}"),
             Detail::Void(code) => write!(f, " code {code}"),
-            Detail::At(place) => write!(f, " at {place}"),
-            Detail::VoidAt(_, place) => write!(f, " at {place}"),
+            Detail::At(place) | Detail::VoidAt(_, place) => write!(f, " at {place}"),
         }
     }
 }
