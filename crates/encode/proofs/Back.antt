@@ -27,7 +27,7 @@ bit_small m n a b = grind arith
 tail_kept : (m : Mode) (n a b : ℕ) → a < 256 → b < 256 → tail_of (operand_of m n a b) ≡ take (operand_bytes m) (a ∷ b ∷ [])
 tail_kept m n a b ha hb = grind (arith, of_z-to_z)
 
--- the first bytes of a list, case by case: `grind` does not take lists apart so far
+-- the first bytes of a list, case by case: `grind` does not take these lists apart
 front : (bs : List ℕ) (c : ℕ) → c ≤ 2 → 1 + c ≤ length bs → get_or bs 0 0 ∷ take c (get_or bs 1 0 ∷ get_or bs 2 0 ∷ []) ≡ take (1 + c) bs
 front [] c h l = absurd (omega arith)
 front (x ∷ bs) zero h l = refl

@@ -69,7 +69,7 @@ impl Operand {
     }
 }
 
-// A number of a row with what the prebyte adds to it; where the row has none there is nothing to add to.
+// A number of a row with what the prebyte adds to it; where the row has none, and 0 stands for it, there is nothing to add to.
 fn with_prebyte(own: u8, added: u8) -> u8
     requires { own + added < 256 }
     ensures { result ≡ with_prebyte own added }

@@ -1,7 +1,7 @@
 // Lengths and cycles as constant rows: a row for each operation, a column for each mode, in the order of the two enums. A
-// number is that of the opcode without a prebyte, and 0 stands where the operation has no such mode: rows of plain numbers
-// are read beside a data sheet's, and whoever has decoded an instruction asks for no number that is not there. Two tables,
-// and no row of both: an indirect mode has a length of its own, and takes the cycles of its direct mode.
+// number is that of the opcode without a prebyte, and 0, no `None`, stands where the operation has no such mode: so a row is
+// read at a glance beside others, and whoever has decoded an instruction, which has a mode of its operation, asks for no
+// `Option`. Two tables, and no row of both: an indirect mode has a length of its own, and takes the cycles of its direct mode.
 ghost use Rattle.std.specs.Prelude.{◌≡◌};
 ghost use Rattle.instruction.specs.Order.{mode_number};
 ghost use Rattle.instruction.specs.Rows.{row_length, row_cycles};

@@ -6,8 +6,8 @@ ghost use Rattle.numerals.specs.Numerals.{hex2, hex4, dec2};
 
 use std::fmt;
 
-// Three types, and no format such as `{:04X}` at each place that prints a number: there each text would need a line that takes
-// the number out, so that the proofs know how large it can be, and the name of the lemma that says what the format writes.
+// Three types, and no format such as `{:04X}` at each place of a proved text: there each text would need a line that takes the
+// number out, so that the proofs know how large it can be, and the name of the lemma that says what the format writes.
 
 // A byte as two hexadecimal digits.
 #[derive(Clone, Copy)]

@@ -40,7 +40,8 @@ impl<'a> fmt::Display for Row<'a> {
     }
 }
 
-// A hexadecimal digit, and 0 for any other character: the library's `to_digit` would read small letters too.
+// A hexadecimal digit, and 0 for any other character. By hand, since the library's `to_digit` reads small letters too: a row
+// that has them is wrong.
 fn digit(character: u8) -> u8
     ensures { result < 16 }
 {

@@ -7,7 +7,7 @@ use Rattle.notation.specs.Texts.{operands_text, statement_text}
 use Rattle.worked_examples.proofs.worked_examples.Goals as goal
 
 -- what the bytes decode to is found by computing
--- each example names an instruction or a fault, which the tactics do not invent
+-- an attribute that opens the definitions does not close it: each example names an instruction or a fault, which the tactics do not invent
 pub returns : goal.returns
 unfolding hex2 hex4 cycles_of length_of decode_of relative_target operands_text statement_text
 returns c = (
