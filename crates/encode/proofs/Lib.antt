@@ -2,3 +2,4 @@ pub mod Opcodes
 pub mod Reading
 pub mod Back
 pub mod Again
+pub mod Writing

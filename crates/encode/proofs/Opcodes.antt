@@ -20,7 +20,7 @@ again n (Some (o, m)) = opcode_in o m (bit_of (operand_of m n 0 0))
 pub opcode_again : (n : ℕ) → n < 256 → again n (plain_at n) ≡ Some n
 opcode_again n h = same_below (λ n. again n (plain_at n)) Some 256 refl n h
 
--- the bit that an opcode holds, and b in the modes that have no bit, which stand before the others
+-- the bit that an opcode holds, and b in the direct modes that have no bit, which stand before the two that have one
 abbrev pub bit_or : Mode → ℕ → ℕ → ℕ
 bit_or m n b = cond (ltb (mode_number m) (mode_number Bit)) b (bit_in n)
 

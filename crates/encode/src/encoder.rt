@@ -1,6 +1,6 @@
 // The encoder.
-ghost use Rattle.std.specs.Prelude.{◌≡◌, ◌≤◌, ◌∷◌, ◌++◌, length, option_map};
-ghost use Rattle.arrayvec.specs.ArrayVec.{array_vec_len};
+ghost use Rattle.std.specs.Prelude.{◌≡◌, ℕ, ◌≤◌, List, ◌∷◌, ◌++◌, length, take};
+ghost use Rattle.instruction.specs.Modes.{mode_of, operand_bytes};
 ghost use Rattle.instruction.specs.Rows.{prebyte_of};
 ghost use Rattle.isa.specs.Decode.{decode_of};
 ghost use Rattle.encode.specs.Buffer.{answer, buffer, length_taken, copied};
@@ -9,28 +9,34 @@ ghost use Rattle.encode.specs.Laws.{Signed, ReadsBack, WritesBack};
 
 use crate::places::opcode;
 use crate::refusals::EncodeRefusal;
-use arrayvec::ArrayVec;
 use isa::{DecodeFault, Instruction, Operand, allows, decode};
+use std::marker::Model;
 
-// Puts two bytes behind the others.
-fn push_both(bytes: [u8; 2], code: &mut ArrayVec<u8, 4>)
-    requires { array_vec_len code.old ≤ 2 }
-    ensures { code.new.items ≡ code.old.items ++ bytes }
-{
-    let [first, second] = bytes;
-    code.push(first);
-    code.push(second);
+// The bytes of an instruction: the first `length` of four, and clauses see these alone.
+#[derive(Drop)]
+struct Code {
+    bytes: [u8; 4],
+    length: usize,
 }
 
-// Puts the bytes that follow the opcode behind it. That a relative offset is a signed byte is known where it is taken out
-// of the operand, and the second clause says it.
-fn push_operand(operand: Operand, code: &mut ArrayVec<u8, 4>)
-    requires { array_vec_len code.old ≤ 2 }
-    ensures value { code.new.items ≡ code.old.items ++ tail_of operand }
+impl Model for Code {
+    ghost Value = { List ℕ };
+
+    ghost view = { λ code. take code.length code.bytes };
+
+    ghost invariant = { λ code. code.length ≤ 4 };
+}
+
+// The bytes that follow the opcode, with zeros up to two. That a relative offset is a signed byte is known where it is taken
+// out of the operand, and the second clause says it.
+fn tail(operand: Operand) -> [u8; 2]
+    ensures value { take (operand_bytes (mode_of operand)) result ≡ tail_of operand }
     ensures signed { Signed operand }
 {
     match operand {
-        Operand::Inherent | Operand::Accumulator | Operand::IndexRegister | Operand::Indexed => {}
+        Operand::Inherent | Operand::Accumulator | Operand::IndexRegister | Operand::Indexed => [
+            0, 0,
+        ],
         Operand::Immediate(byte)
         | Operand::Short(byte)
         | Operand::ShortIndexed(byte)
@@ -40,40 +46,46 @@ fn push_operand(operand: Operand, code: &mut ArrayVec<u8, 4>)
         | Operand::LongPointerIndexed(byte)
         | Operand::RelativePointer(byte)
         | Operand::Bit { address: byte, .. }
-        | Operand::BitPointer { pointer: byte, .. } => code.push(byte),
-        Operand::Long(word) | Operand::LongIndexed(word) => push_both(word.to_be_bytes(), code),
-        Operand::Relative(offset) => code.push(offset.cast_unsigned()),
+        | Operand::BitPointer { pointer: byte, .. } => [byte, 0],
+        Operand::Long(word) | Operand::LongIndexed(word) => word.to_be_bytes(),
+        Operand::Relative(offset) => [offset.cast_unsigned(), 0],
         Operand::BitRelative {
             address,
             offset,
             ..
-        } => push_both([address, offset.cast_unsigned()], code),
+        } => [address, offset.cast_unsigned()],
         Operand::BitPointerRelative {
             pointer,
             offset,
             ..
-        } => push_both([pointer, offset.cast_unsigned()], code),
+        } => [pointer, offset.cast_unsigned()],
     }
 }
 
 // Prebyte, opcode and operand of an instruction.
-fn join(instruction: Instruction, opcode: u8) -> ArrayVec<u8, 4>
-    ensures value { result.items ≡ prefix (prebyte_of instruction) ++ (opcode ∷ tail_of instruction.operand) }
+#[tactic(auto, using(crate::proofs::Writing::behind_two))]
+fn join(instruction: Instruction, opcode: u8) -> Code
+    ensures value { result ≡ prefix (prebyte_of instruction) ++ (opcode ∷ tail_of instruction.operand) }
     ensures signed { Signed instruction.operand }
 {
-    let mut code = ArrayVec::new();
-    if let Some(prebyte) = instruction.prebyte() {
-        code.push(u8::from(prebyte));
+    let [a, b] = tail(instruction.operand);
+    let count = instruction.operand.mode().operand_bytes();
+    match instruction.prebyte() {
+        None => Code {
+            bytes: [opcode, a, b, 0],
+            length: 1 + count,
+        },
+        Some(prebyte) => Code {
+            bytes: [u8::from(prebyte), opcode, a, b],
+            length: 2 + count,
+        },
     }
-    code.push(opcode);
-    push_operand(instruction.operand, &mut code);
-    code
 }
 
 // The bytes of an instruction, if it is one of the ST7.
 #[tactic(auto, using(crate::proofs::Reading::reads_back), unfolding(crate::specs::Encode::encode_of))]
-fn code_for(instruction: Instruction) -> Option<ArrayVec<u8, 4>>
-    ensures value { option_map (λ code. code.items) result ≡ encode_of instruction }
+fn code_for(instruction: Instruction) -> Option<Code>
+    ensures value { result ≡ encode_of instruction }
     ensures reads_back { ReadsBack instruction }
 {
     let opcode = opcode(instruction)?;
@@ -92,11 +104,11 @@ pub fn encode(instruction: &Instruction, out: &mut [u8]) -> Result<usize, Encode
     ensures reads_back { ReadsBack instruction.now }
 {
     let code = code_for(*instruction).ok_or(EncodeRefusal::NoInstruction)?;
-    if out.len() < code.len() {
+    if out.len() < code.length {
         return Err(EncodeRefusal::ShortBuffer);
     }
-    out[..code.len()].copy_from_slice(&code);
-    Ok(code.len())
+    out[..code.length].copy_from_slice(&code.bytes[..code.length]);
+    Ok(code.length)
 }
 
 // Decodes the instruction at the start of the bytes and encodes it again, into the front of the buffer: these are the same
