@@ -81,15 +81,16 @@ fn with_prebyte(own: u8, added: u8) -> u8
 }
 
 impl Instruction {
-    // The prebyte that stands before the opcode, if one does.
+    // The prebyte that stands before the opcode, if one does. The pointer is asked first: in that order the compiler makes fewer
+    // tests of the cycles that follow from it.
     pub fn prebyte(self) -> Option<Prebyte>
         ensures { result ≡ prebyte_of self }
     {
-        match (self.index, self.operand.mode().is_indirect()) {
-            (Index::X, false) => None,
-            (Index::Y, false) => Some(Prebyte::Y),
-            (Index::Y, true) => Some(Prebyte::PointerY),
-            (Index::X, true) => Some(Prebyte::Pointer),
+        match (self.operand.mode().is_indirect(), self.index) {
+            (false, Index::X) => None,
+            (false, Index::Y) => Some(Prebyte::Y),
+            (true, Index::Y) => Some(Prebyte::PointerY),
+            (true, Index::X) => Some(Prebyte::Pointer),
         }
     }
 
