@@ -1,13 +1,8 @@
--- What std writes of a number, with zeros before it up to a width, is its text here.
+-- What std writes of a word, with zeros before it up to four digits, is its text here.
 use Rattle.std.proofs.Common.{◌≡◌, ℕ, suc, ◌-◌, ◌/◌, ◌%◌, ◌^◌, ◌<◌, ◌≤◌, true, false, List, [], ◌∷◌, ◌∙◌, arith}
-use Rattle.std.proofs.lemmas.Fmt.{hex_one_digit, hex_two_digits, hex_byte, decimal_digit, decimal_step}
-use Rattle.std.specs.Fmt.{digits, digits_onto, char_count, padded_integral, styled_decimal, format_spec}
-use Rattle.numerals.specs.Numerals.{hex_digit, hex2, hex4, dec2}
-
--- a byte
-pub byte_text : (n : ℕ) → n < 256 → padded_integral (format_spec 32 0 4 2 (2 ^ 64 - 1)) false [] (digits 16 true n) ≡ hex2 n
-unfolding hex2
-byte_text n small = hex_byte true n small
+use Rattle.std.proofs.lemmas.Fmt.{hex_one_digit, hex_two_digits}
+use Rattle.std.specs.Fmt.{digits, digits_onto, char_count, padded_integral, format_spec}
+use Rattle.numerals.specs.Numerals.{hex_digit, hex2, hex4}
 
 -- a last digit, and one with others before it
 onto_last : (k n : ℕ) (acc : List ℕ) → n < 16 → digits_onto (suc k) 16 true n acc ≡ hex_digit n ∷ acc
@@ -33,8 +28,3 @@ digits_four n large small =
 pub word_text : (n : ℕ) → n < 65536 → padded_integral (format_spec 32 0 4 4 (2 ^ 64 - 1)) false [] (digits 16 true n) ≡ hex4 n
 unfolding hex2 hex4 padded_integral char_count
 word_text n small = grind (arith, hex_one_digit, hex_two_digits, digits_three, digits_four)
-
--- a byte in decimal
-pub decimal_text : (n : ℕ) → n < 256 → styled_decimal (format_spec 32 0 4 2 (2 ^ 64 - 1)) n ≡ dec2 n
-unfolding dec2 padded_integral char_count
-decimal_text n small = grind (arith, decimal_digit, decimal_step)
